@@ -14,7 +14,7 @@ use Rattle.rr_pages.specs.Sets.{Has}
 use Rattle.rr_images.specs.Calls.{far_gate, Appends, Begins, part_behind}
 use Rattle.rr_images.specs.Codec.{Codec}
 use Rattle.rr_images.specs.Holding.{Holding, reached_of}
-use Rattle.rr_images.specs.Layout.{FarHalf, Unused, Old, Begun, far_lines, Keeps}
+use Rattle.rr_images.specs.Layout.{FarHalf, Unused, Old, Begun, far_lines, IsSameRoot, KeepsUnder}
 use Rattle.rr_images.specs.Progress.{IsPlan, IsBegun, IsNotBegun, IsBetween}
 use Rattle.rr_images.specs.Steps.{with_far, with_line, with_line_at, GoesOnAt}
 use Rattle.rr_images.proofs.Calls.{appends, begins, not_begun}
@@ -58,7 +58,8 @@ module _ {C : Type 0} (codec : Codec) (file : OpenFile C) (checkpoint : Option C
   pub record_ready : IsReady file.place.half state
   record_ready = record_next.ready
 
-  pub record_stops : (image : List ℕ) → MayLeave file.place.half state file.place.number line image → Keeps codec image old ⊎ Keeps codec image new
+  pub record_stops : (image : List ℕ) → MayLeave file.place.half state file.place.number line image
+      → KeepsUnder codec (IsSameRoot carries.layout) image old ⊎ KeepsUnder codec (IsSameRoot carries.layout) image new
   record_stops = record_next.leaves
 
   same_side : (far : FarHalf) → (with_line_at carries.layout far line new).side ≡ carries.layout.side
@@ -141,7 +142,7 @@ module _ {C : Type 0} (codec : Codec) (file : OpenFile C) (state : DiskState) (w
         };
         coming = (coming, next, packed);
       },
-      record { root = refl; present = refl; coming = refl; middle = refl; far = found_far (begun_there some) },
+      record { root = refl; base = refl; present = refl; coming = refl; middle = refl; far = found_far (begun_there some) },
     )
 
   module _ (none : IsNotBegun carries.layout.far) (index : HalfIndex) (other : index ≡ other_half file.taken.root.half) (at : ℕ) (there : at ≡ next_gate (record { index = index; next_slot = 0 })) where
@@ -154,7 +155,7 @@ module _ {C : Type 0} (codec : Codec) (file : OpenFile C) (state : DiskState) (w
     at_gate : at ≡ far_gate carries.layout
     at_gate = there ∙ ap (λ (i : HalfIndex). gate_place i 0) other_part
 
-    pub begin_stops : (image : List ℕ) → MayShut state at image → Keeps codec image world
+    pub begin_stops : (image : List ℕ) → MayShut state at image → KeepsUnder codec (IsSameRoot carries.layout) image world
     begin_stops image may = begin_next.leaves image (subst (λ (n : ℕ). MayShut state n image) at_gate may)
 
     module _ (plan : Plan) (holding : Holding) (is_plan : IsPlan codec carries.layout (plan_of plan holding)) (coming : Has (coming_of file.free) (reached_of holding)) (next : plan.root.number ≡ file.taken.root.number + 1) (packed : IsPacked file.free plan) where
@@ -185,5 +186,5 @@ module _ {C : Type 0} (codec : Codec) (file : OpenFile C) (state : DiskState) (w
               between = begin_next.done (plan_of plan holding) new is_plan (subst (λ (n : ℕ). Shuts state n new) at_gate shuts);
               coming = (coming, next, packed);
             },
-            record { root = refl; present = refl; coming = refl; middle = refl; far = ap Begun (sym (none_far carries.layout.far none)) },
+            record { root = refl; base = refl; present = refl; coming = refl; middle = refl; far = ap Begun (sym (none_far carries.layout.far none)) },
           )

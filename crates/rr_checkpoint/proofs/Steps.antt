@@ -1,5 +1,5 @@
 -- What each step of a checkpoint leaves of what is known of an open file.
-use Rattle.std.proofs.Common.{◌≡◌, ℕ, zero, suc, ◌+◌, ◌*◌, ◌<◌, ◌≤◌, Bool, not, List, [], ◌∷◌, ◌++◌, length, get_or, take, drop, map, None, Some, refl, sym, ◌∙◌, ap, subst, arith}
+use Rattle.std.proofs.Common.{◌≡◌, inl, inr, ℕ, zero, suc, ◌+◌, ◌*◌, ◌<◌, ◌≤◌, Bool, not, List, [], ◌∷◌, ◌++◌, length, get_or, take, drop, map, None, Some, refl, sym, ◌∙◌, ap, subst, arith}
 use Rattle.std.specs.List.{slice_get}
 use Rattle.std.proofs.lemmas.Option.{slice_get_read}
 use Rattle.rr_disk.specs.Disk.{DiskState, IsImage, after_write, after_sync}
@@ -15,17 +15,19 @@ use Rattle.rr_pages.specs.Writing.{fresh_of}
 use Rattle.rr_images.specs.Calls.{stale_gate, WritesPage, ShutsStale, FillsRoot, OpensRoot, TakesNewer}
 use Rattle.rr_images.specs.Codec.{Codec}
 use Rattle.rr_images.specs.Holding.{reached_of}
-use Rattle.rr_images.specs.Layout.{Keeps}
+use Rattle.rr_images.specs.Layout.{IsEitherRoot, KeepsUnder, Layout}
 use Rattle.rr_images.specs.Progress as images
 use Rattle.rr_images.specs.Progress.{IsBegun, IsNotBegun, Progress, Resting, Writing, Shutting, Filling, IsBetween}
 use Rattle.rr_images.specs.Steps.{with_stale, flipped, behind_flip}
 use Rattle.rr_images.proofs.Calls.{writes_page, shuts_stale, fills_root, opens_root}
 use Rattle.rr_images.proofs.GoesOn.{goes_stale, goes_flip}
+use Rattle.rr_images.proofs.Ticks.{still_root}
 use Rattle.rr_checkpoint.specs.declared.checkpoint.Checkpoint.{Checkpoint}
 use Rattle.rr_checkpoint.specs.declared.checkpoint.Stage.{Stage}
 use Rattle.rr_checkpoint.specs.declared.checkpoint.Stage.TheVariants as S
 use Rattle.rr_checkpoint.specs.declared.open_file.OpenFile.{OpenFile}
-use Rattle.rr_checkpoint.specs.Checkpoint.{plan_of, come_to}
+use Rattle.rr_checkpoint.specs.Calls.{IsRootAt}
+use Rattle.rr_checkpoint.specs.Checkpoint.{plan_of, come_to, left_at, left_of}
 use Rattle.rr_checkpoint.specs.Holds.{HoldsOn, HoldsRenewed}
 use Rattle.rr_checkpoint.specs.OpenFile.{CarriesWith}
 
@@ -87,10 +89,11 @@ module _ {C : Type 0} (codec : Codec) (file : OpenFile C) (checkpoint : Checkpoi
     pub page_long : (bytes : List ℕ) → bytes ≡ fresh.bytes.items → length bytes ≡ 4096
     page_long bytes same = ap (λ (b : List ℕ). length b) same ∙ page_next.whole
 
-    pub page_stops : (bytes : List ℕ) → bytes ≡ fresh.bytes.items → (image : List ℕ) → TornFrom state (4096 * fresh.page) (length bytes) image → Keeps codec image world
+    pub page_stops : (bytes : List ℕ) → bytes ≡ fresh.bytes.items → (image : List ℕ) → TornFrom state (4096 * fresh.page) (length bytes) image
+        → KeepsUnder codec (IsRootAt (left_of (Some checkpoint)) carries.layout carries.holding) image world
     page_stops bytes same image torn =
         let long : length bytes ≡ 4096 = page_long bytes same in
-        record { layout = carries.layout; kept = page_next.leaves image (subst (λ (n : ℕ). TornFrom state (4096 * fresh.page) n image) long torn) }
+        record { layout = carries.layout; kept = page_next.leaves image (subst (λ (n : ℕ). TornFrom state (4096 * fresh.page) n image) long torn); is_root = inl (still_root carries.layout) }
 
     pub page_carries : (bytes : List ℕ) → bytes ≡ fresh.bytes.items → (new : DiskState) → new ≡ after_write state (4096 * fresh.page) bytes
         → (then : CarriesWith codec file (Some (record { plan = checkpoint.plan; stage = S.Writing (written + 1) })) new world)
@@ -108,7 +111,7 @@ module _ {C : Type 0} (codec : Codec) (file : OpenFile C) (checkpoint : Checkpoi
                 (next_taken fresh_of checkpoint.plan.fresh.items written fresh found) page_next.done));
             coming = carries.coming;
           },
-          record { root = refl; present = refl; coming = refl; middle = refl; far = refl },
+          record { root = refl; base = refl; present = refl; coming = refl; middle = refl; far = refl },
         )
 
   -- the stale root's gate is shut
@@ -120,8 +123,11 @@ module _ {C : Type 0} (codec : Codec) (file : OpenFile C) (checkpoint : Checkpoi
         (subst (λ (front : List (ℕ × List ℕ)). IsBetween codec carries.layout state (Writing plan front (drop written plan.fresh)) world) (all_taken fresh_of checkpoint.plan.fresh.items written all)
         (at_stage (S.Writing written) writing)))
 
-    pub shut_stops : (image : List ℕ) → MayShut state (root_gate (not file.taken.side)) image → Keeps codec image world
-    shut_stops image may = shut_next.leaves image (subst (λ (n : ℕ). MayShut state n image) gate_is may)
+    pub shut_stops : (image : List ℕ) → MayShut state (root_gate (not file.taken.side)) image
+        → KeepsUnder codec (IsRootAt (left_of (Some checkpoint)) carries.layout carries.holding) image world
+    shut_stops image may =
+        let left = shut_next.leaves image (subst (λ (n : ℕ). MayShut state n image) gate_is may) in
+        record { layout = left.layout; kept = left.kept; is_root = inl left.is_root }
 
     pub shut_carries : (new : DiskState) → Shuts state (root_gate (not file.taken.side)) new
         → (then : CarriesWith codec file (Some (record { plan = checkpoint.plan; stage = S.Shut })) new world)
@@ -140,7 +146,7 @@ module _ {C : Type 0} (codec : Codec) (file : OpenFile C) (checkpoint : Checkpoi
         between = shut_next.done new (subst (λ (n : ℕ). Shuts state n new) gate_is shuts);
         coming = carries.coming;
       },
-      record { root = refl; present = refl; coming = refl; middle = refl; far = refl },
+      record { root = refl; base = refl; present = refl; coming = refl; middle = refl; far = refl },
     )
 
   -- the coming root is written behind it
@@ -148,8 +154,10 @@ module _ {C : Type 0} (codec : Codec) (file : OpenFile C) (checkpoint : Checkpoi
     fill_next : FillsRoot codec carries.layout state plan world
     fill_next = fills_root codec carries.layout state world stays plan (at_stage S.Shut shut)
 
-    pub fill_stops : (image : List ℕ) → TornFrom state (root_gate (not file.taken.side) + 1) 35 image → Keeps codec image world
-    fill_stops image torn = record { layout = carries.layout; kept = fill_next.leaves image (subst (λ (n : ℕ). TornFrom state (n + 1) 35 image) gate_is torn) }
+    pub fill_stops : (image : List ℕ) → TornFrom state (root_gate (not file.taken.side) + 1) 35 image
+        → KeepsUnder codec (IsRootAt (left_of (Some checkpoint)) carries.layout carries.holding) image world
+    fill_stops image torn =
+        record { layout = carries.layout; kept = fill_next.leaves image (subst (λ (n : ℕ). TornFrom state (n + 1) 35 image) gate_is torn); is_root = inl (still_root carries.layout) }
 
     pub fill_carries : (new : DiskState) → new ≡ after_sync (after_write state (root_gate (not file.taken.side) + 1) (root_bytes checkpoint.plan.root))
         → (then : CarriesWith codec file (Some (record { plan = checkpoint.plan; stage = S.Filled })) new world)
@@ -163,7 +171,7 @@ module _ {C : Type 0} (codec : Codec) (file : OpenFile C) (checkpoint : Checkpoi
             between = subst (λ (s : DiskState). IsBetween codec carries.layout s (Filling plan) world) (sym became) fill_next.done;
             coming = carries.coming;
           },
-          record { root = refl; present = refl; coming = refl; middle = refl; far = refl },
+          record { root = refl; base = refl; present = refl; coming = refl; middle = refl; far = refl },
         )
 
   -- its gate is opened
@@ -174,8 +182,18 @@ module _ {C : Type 0} (codec : Codec) (file : OpenFile C) (checkpoint : Checkpoi
     open_next : OpensRoot codec carries.layout state plan filling.come.1.0 world
     open_next = opens_root codec carries.layout state world stays plan filling.come.1.0 filling.come.1.1 filling
 
-    pub open_stops : (image : List ℕ) → TornFrom state (root_gate (not file.taken.side)) 1 image → Keeps codec image world
-    open_stops image torn = open_next.leaves image (subst (λ (n : ℕ). TornFrom state n 1 image) gate_is torn)
+    last : left_of (Some checkpoint) ≡ 1
+    last = ap (λ (stage : Stage). left_at stage (length checkpoint.plan.fresh.items)) filled
+
+    root_then : (then : Layout codec) → IsEitherRoot carries.layout carries.holding then → IsRootAt (left_of (Some checkpoint)) carries.layout carries.holding then
+    root_then then (inl same) = inl same
+    root_then then (inr coming) = inr (last, coming)
+
+    pub open_stops : (image : List ℕ) → TornFrom state (root_gate (not file.taken.side)) 1 image
+        → KeepsUnder codec (IsRootAt (left_of (Some checkpoint)) carries.layout carries.holding) image world
+    open_stops image torn =
+        let left = open_next.leaves image (subst (λ (n : ℕ). TornFrom state n 1 image) gate_is torn) in
+        record { layout = left.layout; kept = left.kept; is_root = root_then left.layout left.is_root }
 
     module _ (new : DiskState) (is : new ≡ after_sync (after_write state (root_gate (not file.taken.side)) (0xa5 ∷ []))) where
       became : new ≡ after_sync (after_write state (stale_gate carries.layout) (0xa5 ∷ []))

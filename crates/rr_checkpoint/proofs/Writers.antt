@@ -1,8 +1,9 @@
 -- What the calls of a writer say, by those on its file.
-use Rattle.std.proofs.Common.{◌≡◌, ◌+◌, ◌<◌, ℕ, Bool, true, false, List, length, Option, None, Some, refl, sym, ◌∙◌, ap, subst, arith}
+use Rattle.std.proofs.Common.{◌≡◌, ◌⊎◌, ◌+◌, ◌<◌, ℕ, inl, inr, Bool, true, false, List, length, Option, None, Some, refl, sym, ◌∙◌, ap, subst, arith}
 use Rattle.std.specs.Option.{is_some}
 use Rattle.rr_disk.specs.Disk.{DiskState}
-use Rattle.rr_disk.specs.Moments.{EachImage}
+use Rattle.rr_disk.specs.Moments.{EachImage, LeavesOnly}
+use Rattle.rr_disk.proofs.MomentLemmas.{weaker}
 use Rattle.rr_pages.specs.declared.choosing.Taken.{Taken}
 use Rattle.rr_pages.specs.declared.free_pages.FreePages.{FreePages}
 use Rattle.rr_pages.specs.declared.root.Root.{Root}
@@ -11,7 +12,7 @@ use Rattle.rr_pages.specs.Sets.{Has}
 use Rattle.rr_images.specs.Calls.{TakesNewer}
 use Rattle.rr_images.specs.Codec.{Codec, Replays}
 use Rattle.rr_images.specs.Holding.{Holding, reached_of}
-use Rattle.rr_images.specs.Layout.{Layout, FarHalf, Unused, Old, Begun, far_lines, KeepsAt, Keeps}
+use Rattle.rr_images.specs.Layout.{Layout, FarHalf, Unused, Old, Begun, far_lines, IsEitherRoot, IsSameRoot, KeepsAt, Keeps, KeepsUnder}
 use Rattle.rr_images.specs.Progress.{IsNotBegun, IsBetween}
 use Rattle.rr_images.proofs.Commits.{settled_may_stay}
 use Rattle.rr_checkpoint.specs.declared.checkpoint.Checkpoint.{Checkpoint}
@@ -21,7 +22,7 @@ use Rattle.rr_checkpoint.specs.declared.checkpoint.Stage.TheVariants as S
 use Rattle.rr_checkpoint.specs.declared.open_file.OpenFile.{OpenFile}
 use Rattle.rr_checkpoint.specs.declared.writer.Tick.{Tick}
 use Rattle.rr_checkpoint.specs.declared.writer.Tick.TheVariants.{Idle, More, Done}
-use Rattle.rr_checkpoint.specs.Calls.{Renews, StaysTaken}
+use Rattle.rr_checkpoint.specs.Calls.{IsRootAt, LeavesEither, LeavesKept, Renews, StaysTaken}
 use Rattle.rr_checkpoint.specs.Checkpoint.{progress_of, left_at, left_behind_first, left_of}
 use Rattle.rr_checkpoint.specs.Holds.{HoldsOn, HoldsAsBegun, HoldsBehind, HoldsRenewed, HoldsAt, RestsBehind, RestsAt}
 use Rattle.rr_checkpoint.specs.OpenFile.{IsBegunAt, HasComing, CarriesWith}
@@ -144,18 +145,59 @@ pub record HoldsSoFar {codec : Codec} (left rest : ℕ) (old : Layout codec) (co
 
 pub holds_at_first : {codec : Codec} (left : ℕ) (layout : Layout codec) (coming : Holding) → HoldsSoFar left left layout coming layout coming
 holds_at_first left layout coming =
-    record { under_way = λ some. record { root = refl; present = refl; coming = refl; middle = refl; far = refl }; done = λ some none. absurd (omega (arith, some, none)) }
+    record { under_way = λ some. record { root = refl; base = refl; present = refl; coming = refl; middle = refl; far = refl }; done = λ some none. absurd (omega (arith, some, none)) }
 
 holds_twice : {codec : Codec} (old : Layout codec) (coming_old : Holding) (then : Layout codec) (coming_then : Holding) (new : Layout codec) (coming_new : Holding)
     → HoldsOn old coming_old then coming_then → HoldsOn then coming_then new coming_new → HoldsOn old coming_old new coming_new
 holds_twice old coming_old then coming_then new coming_new first second =
     record {
       root = second.root ∙ first.root;
+      base = second.base ∙ first.base;
       present = second.present ∙ first.present;
       coming = second.coming ∙ first.coming;
       middle = second.middle ∙ first.middle;
       far = second.far ∙ first.far;
     }
+
+-- the root within a later step is one from before the others, or the one that was coming then
+pub root_before : {codec : Codec} (left : ℕ) (old : Layout codec) (coming_old : Holding) (then : Layout codec) (coming_then : Holding) (new : Layout codec)
+    → HoldsOn old coming_old then coming_then → IsRootAt left then coming_then new → IsEitherRoot old coming_old new
+root_before left old coming_old then coming_then new on (inl same) = inl (record { root = same.root ∙ on.root; base = same.base ∙ on.base; holding = same.holding ∙ on.present })
+root_before left old coming_old then coming_then new on (inr last) = inr (record { base = last.1.base ∙ on.middle; holding = last.1.holding ∙ on.coming })
+
+-- and within a first one that isn't the last it is the one from before
+pub root_begun : {codec : Codec} (left : ℕ) (old : Layout codec) (coming_old : Holding) (then : Layout codec) (coming_then : Holding) (new : Layout codec)
+    → 1 < left → HoldsAsBegun old coming_old then coming_then → IsRootAt left then coming_then new → IsSameRoot old new
+root_begun left old coming_old then coming_then new more begun (inl same) = record { root = same.root ∙ begun.root; base = same.base ∙ begun.base; holding = same.holding ∙ begun.present }
+root_begun left old coming_old then coming_then new more begun (inr last) = absurd (omega (arith, more, last.0))
+
+-- what a stop leaves under such a root it leaves under any root that this is
+pub left_under : (codec : Codec) {past_old : List DiskState} {old : DiskState} {past_new : List DiskState} {new : DiskState} (world : codec.World) (IsRoot IsOther : Layout codec → Type 0)
+    → ((layout : Layout codec) → IsRoot layout → IsOther layout) → LeavesKept codec IsRoot past_old old past_new new world → LeavesKept codec IsOther past_old old past_new new world
+left_under codec world IsRoot IsOther is stops =
+    weaker stops (λ image. KeepsUnder codec IsOther image world) (λ image left. record { layout = left.layout; kept = left.kept; is_root = is left.layout left.is_root })
+
+pub either_under : (codec : Codec) {past_old : List DiskState} {old : DiskState} {past_new : List DiskState} {new : DiskState} (before behind : codec.World) (IsRoot IsOther : Layout codec → Type 0)
+    → ((layout : Layout codec) → IsRoot layout → IsOther layout) → LeavesEither codec IsRoot past_old old past_new new before behind
+    → LeavesEither codec IsOther past_old old past_new new before behind
+either_under codec before behind IsRoot IsOther is stops =
+    weaker stops (λ image. KeepsUnder codec IsOther image before ⊎ KeepsUnder codec IsOther image behind) (λ image left. elim left [
+      | inl kept ↦ inl (record { layout = kept.layout; kept = kept.kept; is_root = is kept.layout kept.is_root })
+      | inr kept ↦ inr (record { layout = kept.layout; kept = kept.kept; is_root = is kept.layout kept.is_root })
+    ])
+
+-- and it keeps the world
+pub left_kept : (codec : Codec) {past_old : List DiskState} {old : DiskState} {past_new : List DiskState} {new : DiskState} (world : codec.World) (IsRoot : Layout codec → Type 0)
+    → LeavesKept codec IsRoot past_old old past_new new world → LeavesOnly past_old old past_new new (λ image. Keeps codec image world)
+left_kept codec world IsRoot stops = weaker stops (λ image. Keeps codec image world) (λ image left. record { layout = left.layout; kept = left.kept })
+
+pub either_kept : (codec : Codec) {past_old : List DiskState} {old : DiskState} {past_new : List DiskState} {new : DiskState} (before behind : codec.World) (IsRoot : Layout codec → Type 0)
+    → LeavesEither codec IsRoot past_old old past_new new before behind → LeavesOnly past_old old past_new new (λ image. Keeps codec image before ⊎ Keeps codec image behind)
+either_kept codec before behind IsRoot stops =
+    weaker stops (λ image. Keeps codec image before ⊎ Keeps codec image behind) (λ image left. elim left [
+      | inl kept ↦ inl (record { layout = kept.layout; kept = kept.kept })
+      | inr kept ↦ inr (record { layout = kept.layout; kept = kept.kept })
+    ])
 
 -- the last step renews the root from before the others too
 holds_renewed : {codec : Codec} (old : Layout codec) (coming_old : Holding) (then : Layout codec) (coming_then : Holding) (new : Layout codec)
@@ -178,6 +220,7 @@ begun_on None pages old coming then coming_then new coming_new left begun on = a
 begun_on (Some checkpoint) pages old coming then coming_then new coming_new left begun on =
     record {
       root = on.root ∙ begun.root;
+      base = on.base ∙ begun.base;
       present = on.present ∙ begun.present;
       coming = on.coming ∙ begun.coming;
       middle = on.middle ∙ begun.middle;

@@ -9,11 +9,12 @@ use Rattle.rr_checkpoint.specs.declared.checkpoint.Checkpoint.{Checkpoint}
 use Rattle.rr_checkpoint.specs.declared.writer.Tick.{Tick}
 use Rattle.rr_checkpoint.specs.declared.writer.Tick.TheVariants.{Idle, More, Done}
 
--- The present root and what it holds stay, the coming one will hold what it was to hold, and the world before the first
--- record of the other half and the records there stay.
+-- The present root, what it holds and what that spells stay, the coming one will hold what it was to hold, and the world
+-- before the first record of the other half and the records there stay.
 pub record HoldsOn {codec : Codec} (old : Layout codec) (coming_old : Holding) (new : Layout codec)
     (coming_new : Holding) : Type 0 where
   pub root : new.root ≡ old.root
+  pub base : new.base ≡ old.base
   pub present : new.holding ≡ old.holding
   pub coming : coming_new ≡ coming_old
   pub middle : new.middle ≡ old.middle
@@ -23,6 +24,7 @@ pub record HoldsOn {codec : Codec} (old : Layout codec) (coming_old : Holding) (
 pub record HoldsAsBegun {codec : Codec} (old : Layout codec) (coming_old : Holding) (new : Layout codec)
     (coming_new : Holding) : Type 0 where
   pub root : new.root ≡ old.root
+  pub base : new.base ≡ old.base
   pub present : new.holding ≡ old.holding
   pub coming : coming_new ≡ coming_old
   pub middle : new.middle ≡ old.middle

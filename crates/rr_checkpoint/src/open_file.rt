@@ -2,13 +2,14 @@ ghost use Rattle.std.specs.Prelude.{◌≡◌, ◌⊎◌, ◌↔◌, ◌+◌, �
 ghost use Rattle.rr_disk.specs.Disk as device;
 ghost use Rattle.rr_disk.specs.Disk.{counted};
 ghost use Rattle.rr_images.specs.Holding.{Holding, reached_of};
+ghost use Rattle.rr_images.specs.Layout.{IsSameRoot};
 ghost use Rattle.rr_images.specs.Progress.{IsPlan};
 ghost use Rattle.rr_pages.specs.Faults.{CountsFault, OnDeviceFault, OnlyHalf};
 ghost use Rattle.rr_pages.specs.Journal.Layout.{HasRoom};
 ghost use Rattle.rr_pages.specs.declared.fault.Fault.TheVariants as pages;
 ghost use Rattle.rr_pages.specs.FreePages.{present_of, coming_of};
 ghost use Rattle.rr_pages.specs.Sets.{Has};
-ghost use Rattle.rr_checkpoint.specs.Calls.{LeavesKept, LeavesEither, Renews, StaysTaken};
+ghost use Rattle.rr_checkpoint.specs.Calls.{IsRootAt, LeavesKept, LeavesEither, Renews, StaysTaken};
 ghost use Rattle.rr_checkpoint.specs.Checkpoint.{HasPageLeft, plan_of, begun, left_of};
 ghost use Rattle.rr_checkpoint.specs.Growing.{AreReclaimed, FreesAt, GrowsWhereFull, IsPacked};
 ghost use Rattle.rr_checkpoint.specs.Holds.{HoldsOn, HoldsAsBegun, HoldsWithRecord, HoldsRenewed, HoldsBehind, RestsBehind};
@@ -50,8 +51,9 @@ impl<C: Codec> OpenFile<C> {
             → (then : CarriesWith C.codec self.new checkpoint (D.state disk.new) new)
             × HoldsWithRecord carries.layout carries.holding line.now new then.layout then.holding) }
         ensures stops { D.Honest disk.new → (old new : C.codec.World) → C.codec.Takes line.now old new
-            → (checkpoint : _) → CarriesWith C.codec self.old checkpoint (D.state disk.old) old
-            → LeavesEither C.codec (D.past disk.old) (D.state disk.old) (D.past disk.new) (D.state disk.new) old new }
+            → (checkpoint : _) → (carries : CarriesWith C.codec self.old checkpoint (D.state disk.old) old)
+            → LeavesEither C.codec (IsSameRoot carries.layout) (D.past disk.old) (D.state disk.old) (D.past disk.new)
+            (D.state disk.new) old new }
         ensures full { IsErrOf result pages.HalfFull
             ↔ (HasRoom self.old.place.half.next_slot (length line.now) → ⊥) }
         ensures same { IsErrOf result pages.HalfFull → self.new ≡ self.old }
@@ -102,8 +104,9 @@ impl<C: Codec> OpenFile<C> {
             → CarriesWith C.codec self.old None (D.state disk.old) world
             → D.file_len disk.new ≡ D.file_len disk.old }
         ensures stops { D.Honest disk.new → (world : C.codec.World)
-            → CarriesWith C.codec self.old None (D.state disk.old) world
-            → LeavesKept C.codec (D.past disk.old) (D.state disk.old) (D.past disk.new) (D.state disk.new) world }
+            → (carries : CarriesWith C.codec self.old None (D.state disk.old) world)
+            → LeavesKept C.codec (IsSameRoot carries.layout) (D.past disk.old) (D.state disk.old) (D.past disk.new)
+            (D.state disk.new) world }
         ensures honest { D.Honest disk.new → D.Honest disk.old }
         ensures fault { device.CountsFault (D.fault_count disk.old) (D.fault_count disk.new) result }
         ensures device { OnErr result (D.Honest disk.new → (world : C.codec.World)
@@ -139,8 +142,9 @@ impl<C: Codec> OpenFile<C> {
             → (carries : CarriesWith C.codec self.old (Some checkpoint) (D.state disk.old) world)
             → Renews C.codec carries.layout next (D.state disk.new) world) }
         ensures stops { D.Honest disk.new → (world : C.codec.World)
-            → CarriesWith C.codec self.old (Some checkpoint) (D.state disk.old) world
-            → LeavesKept C.codec (D.past disk.old) (D.state disk.old) (D.past disk.new) (D.state disk.new) world }
+            → (carries : CarriesWith C.codec self.old (Some checkpoint) (D.state disk.old) world)
+            → LeavesKept C.codec (IsRootAt (left_of (Some checkpoint)) carries.layout carries.holding)
+            (D.past disk.old) (D.state disk.old) (D.past disk.new) (D.state disk.new) world }
         ensures left { IfOk result (λ next. left_of (Some checkpoint) ≡ left_of next + 1) }
         ensures page { OnOk result (HasPageLeft checkpoint → (D.write_count disk.new ≡ counted (D.write_count disk.old))
             × (D.sync_count disk.new ≡ D.sync_count disk.old)) }
@@ -195,8 +199,9 @@ impl<C: Codec> OpenFile<C> {
             → (then : CarriesWith C.codec self.now (Some next) (D.state disk.new) world)
             × HoldsOn carries.layout carries.holding then.layout then.holding) }
         ensures stops { D.Honest disk.new → (world : C.codec.World)
-            → CarriesWith C.codec self.now (Some checkpoint) (D.state disk.old) world
-            → LeavesKept C.codec (D.past disk.old) (D.state disk.old) (D.past disk.new) (D.state disk.new) world }
+            → (carries : CarriesWith C.codec self.now (Some checkpoint) (D.state disk.old) world)
+            → LeavesKept C.codec (IsRootAt (left_of (Some checkpoint)) carries.layout carries.holding)
+            (D.past disk.old) (D.state disk.old) (D.past disk.new) (D.state disk.new) world }
         ensures left { IfOk result (λ next. left_of (Some checkpoint) ≡ left_of (Some next) + 1) }
         ensures page { OnOk result (HasPageLeft checkpoint → (D.write_count disk.new ≡ counted (D.write_count disk.old))
             × (D.sync_count disk.new ≡ D.sync_count disk.old)) }
@@ -238,8 +243,9 @@ impl<C: Codec> OpenFile<C> {
             → (then : CarriesWith C.codec self.now (Some next) (D.state disk.new) world)
             × HoldsOn carries.layout carries.holding then.layout then.holding) }
         ensures stops { D.Honest disk.new → (world : C.codec.World)
-            → CarriesWith C.codec self.now (Some checkpoint) (D.state disk.old) world
-            → LeavesKept C.codec (D.past disk.old) (D.state disk.old) (D.past disk.new) (D.state disk.new) world }
+            → (carries : CarriesWith C.codec self.now (Some checkpoint) (D.state disk.old) world)
+            → LeavesKept C.codec (IsRootAt (left_of (Some checkpoint)) carries.layout carries.holding)
+            (D.past disk.old) (D.state disk.old) (D.past disk.new) (D.state disk.new) world }
         ensures left { IfOk result (λ next. left_of (Some checkpoint) ≡ left_of (Some next) + 1) }
         ensures same_len { D.Honest disk.new → (world : C.codec.World)
             → CarriesWith C.codec self.now (Some checkpoint) (D.state disk.old) world
@@ -268,8 +274,9 @@ impl<C: Codec> OpenFile<C> {
             → (then : CarriesWith C.codec self.now (Some next) (D.state disk.new) world)
             × HoldsOn carries.layout carries.holding then.layout then.holding) }
         ensures stops { D.Honest disk.new → (world : C.codec.World)
-            → CarriesWith C.codec self.now (Some checkpoint) (D.state disk.old) world
-            → LeavesKept C.codec (D.past disk.old) (D.state disk.old) (D.past disk.new) (D.state disk.new) world }
+            → (carries : CarriesWith C.codec self.now (Some checkpoint) (D.state disk.old) world)
+            → LeavesKept C.codec (IsRootAt (left_of (Some checkpoint)) carries.layout carries.holding)
+            (D.past disk.old) (D.state disk.old) (D.past disk.new) (D.state disk.new) world }
         ensures left { IfOk result (λ next. left_of (Some checkpoint) ≡ left_of (Some next) + 1) }
         ensures same_len { D.Honest disk.new → (world : C.codec.World)
             → CarriesWith C.codec self.now (Some checkpoint) (D.state disk.old) world
@@ -301,8 +308,9 @@ impl<C: Codec> OpenFile<C> {
             → (carries : CarriesWith C.codec self.old (Some checkpoint.now) (D.state disk.old) world)
             → Renews C.codec carries.layout None (D.state disk.new) world) }
         ensures stops { D.Honest disk.new → (world : C.codec.World)
-            → CarriesWith C.codec self.old (Some checkpoint.now) (D.state disk.old) world
-            → LeavesKept C.codec (D.past disk.old) (D.state disk.old) (D.past disk.new) (D.state disk.new) world }
+            → (carries : CarriesWith C.codec self.old (Some checkpoint.now) (D.state disk.old) world)
+            → LeavesKept C.codec (IsRootAt (left_of (Some checkpoint.now)) carries.layout carries.holding)
+            (D.past disk.old) (D.state disk.old) (D.past disk.new) (D.state disk.new) world }
         ensures number { self.new.place.number ≡ self.old.place.number }
         ensures half { self.new.place.half ≡ self.old.place.half }
         ensures rests { OnOk result (self.new.place.begun ≡ None) }

@@ -4,7 +4,7 @@ ghost use Rattle.rr_disk.specs.Disk as device;
 ghost use Rattle.rr_disk.specs.Disk.{DiskState, counted};
 ghost use Rattle.rr_disk.specs.Moments.{EachImage};
 ghost use Rattle.rr_images.specs.Calls.{TakesNewer};
-ghost use Rattle.rr_images.specs.Layout.{Layout};
+ghost use Rattle.rr_images.specs.Layout.{IsEitherRoot, IsSameRoot, Layout};
 ghost use Rattle.rr_images.specs.Plans.{Draft, chains_of};
 ghost use Rattle.rr_images.specs.Progress.{Resting, IsBetween};
 ghost use Rattle.rr_pages.specs.Faults.{CountsFault, OnDeviceFault, OnlyHalf};
@@ -15,7 +15,7 @@ ghost use Rattle.rr_pages.specs.Sets.{IsEmpty, TooFewFree, marked};
 ghost use Rattle.rr_pages.specs.Writing.{IsLaid};
 ghost use Rattle.rr_pages.specs.declared.fault.Fault.TheVariants as pages;
 ghost use Rattle.rr_pages.specs.declared.page.TheConstants.{MOST_PAGES};
-ghost use Rattle.rr_checkpoint.specs.Calls.{LeavesKept, LeavesEither};
+ghost use Rattle.rr_checkpoint.specs.Calls.{IsRootAt, LeavesKept, LeavesEither};
 ghost use Rattle.rr_checkpoint.specs.Holds.{HoldsAsBegun, HoldsWithRecord, HoldsRenewed, HoldsAt, RestsAt};
 ghost use Rattle.rr_checkpoint.specs.OpenFile.{Tells};
 ghost use Rattle.rr_checkpoint.specs.Checkpoint.{left_behind_first};
@@ -126,8 +126,9 @@ impl<C: Codec> Writer<C> {
             → (then : Carries C.codec self.new (D.state disk.new) new)
             × HoldsWithRecord carries.layout carries.holding line.now new then.layout then.holding) }
         ensures stops { D.Honest disk.new → (old new : C.codec.World) → C.codec.Takes line.now old new
-            → Carries C.codec self.old (D.state disk.old) old
-            → LeavesEither C.codec (D.past disk.old) (D.state disk.old) (D.past disk.new) (D.state disk.new) old new }
+            → (carries : Carries C.codec self.old (D.state disk.old) old)
+            → LeavesEither C.codec (IsSameRoot carries.layout) (D.past disk.old) (D.state disk.old) (D.past disk.new)
+            (D.state disk.new) old new }
         ensures number { OnOk result ((place_of self.new).number ≡ (place_of self.old).number + 1) }
         ensures begun { (place_of self.new).begun ≡ (place_of self.old).begun }
         ensures left { ticks_left_of self.new ≡ ticks_left_of self.old }
@@ -286,7 +287,8 @@ impl<C: Codec> Writer<C> {
         ensures stops { D.Honest disk.new → (world : C.codec.World)
             → (carries : Carries C.codec self.old (D.state disk.old) world)
             → MayStart C.codec carries.layout (free_of self.old) (place_of self.old).begun plan
-            → LeavesKept C.codec (D.past disk.old) (D.state disk.old) (D.past disk.new) (D.state disk.new) world }
+            → LeavesKept C.codec (IsSameRoot carries.layout) (D.past disk.old) (D.state disk.old) (D.past disk.new)
+            (D.state disk.new) world }
         ensures left { OnOk result
             (ticks_left_of self.new ≡ left_behind_first (place_of self.old).begun (length plan.fresh.items)) }
         ensures taken { taken_of self.new ≡ taken_of self.old }
@@ -340,7 +342,8 @@ impl<C: Codec> Writer<C> {
         ensures stops { D.Honest disk.new → (world : C.codec.World)
             → (carries : Carries C.codec self.old (D.state disk.old) world)
             → MayBegin C.codec carries.layout (free_of self.old) plan
-            → LeavesKept C.codec (D.past disk.old) (D.state disk.old) (D.past disk.new) (D.state disk.new) world }
+            → LeavesKept C.codec (IsSameRoot carries.layout) (D.past disk.old) (D.state disk.old) (D.past disk.new)
+            (D.state disk.new) world }
         ensures left { OnOk result (ticks_left_of self.new ≡ length plan.fresh.items + 2) }
         ensures taken { taken_of self.new ≡ taken_of self.old }
         ensures number { (place_of self.new).number ≡ (place_of self.old).number }
@@ -380,8 +383,10 @@ impl<C: Codec> Writer<C> {
         ensures renews { IfOk result (λ tick. D.Honest disk.new → (world : C.codec.World)
             → (carries : Carries C.codec self.old (D.state disk.old) world)
             → RenewsAt C.codec tick carries.layout (D.state disk.new) world) }
-        ensures stops { D.Honest disk.new → (world : C.codec.World) → Carries C.codec self.old (D.state disk.old) world
-            → LeavesKept C.codec (D.past disk.old) (D.state disk.old) (D.past disk.new) (D.state disk.new) world }
+        ensures stops { D.Honest disk.new → (world : C.codec.World)
+            → (carries : Carries C.codec self.old (D.state disk.old) world)
+            → LeavesKept C.codec (IsRootAt (ticks_left_of self.old) carries.layout carries.holding)
+            (D.past disk.old) (D.state disk.old) (D.past disk.new) (D.state disk.new) world }
         ensures left { IfOk result (λ tick. Lowers tick (ticks_left_of self.old) (ticks_left_of self.new)) }
         ensures taken { IfOk result (λ tick. StaysTakenAt tick (taken_of self.old) (taken_of self.new)) }
         ensures rests { IfOk result (λ tick. RestsAt tick (place_of self.new).begun) }
@@ -435,8 +440,10 @@ impl<C: Codec> Writer<C> {
             → (carries : Carries C.codec self.old (D.state disk.old) world)
             → (then : Carries C.codec self.new (D.state disk.new) world)
             × (0 < ticks_left_of self.old → HoldsRenewed carries.layout carries.holding then.layout)) }
-        ensures stops { D.Honest disk.new → (world : C.codec.World) → Carries C.codec self.old (D.state disk.old) world
-            → LeavesKept C.codec (D.past disk.old) (D.state disk.old) (D.past disk.new) (D.state disk.new) world }
+        ensures stops { D.Honest disk.new → (world : C.codec.World)
+            → (carries : Carries C.codec self.old (D.state disk.old) world)
+            → LeavesKept C.codec (IsEitherRoot carries.layout carries.holding) (D.past disk.old) (D.state disk.old)
+            (D.past disk.new) (D.state disk.new) world }
         ensures renews { OnOk result (D.Honest disk.new → (world : C.codec.World)
             → (carries : Carries C.codec self.old (D.state disk.old) world) → 0 < ticks_left_of self.old
             → EachImage (D.state disk.new) (TakesNewer C.codec carries.layout world)) }

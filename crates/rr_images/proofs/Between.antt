@@ -11,7 +11,7 @@ use Rattle.rr_pages.specs.Journal.Stops.{next_gate, MayLeave}
 use Rattle.rr_images.specs.Codec.{Codec}
 use Rattle.rr_pages.specs.Roots.{root_gate}
 use Rattle.rr_images.specs.Holding.{reached_of}
-use Rattle.rr_images.specs.Layout.{Layout, FarHalf, Begun, KeepsAt, Keeps}
+use Rattle.rr_images.specs.Layout.{Layout, FarHalf, Unused, Old, Begun, KeepsAt, KeepsUnder, IsSameRoot}
 use Rattle.rr_images.specs.Steps.{with_far, with_line, with_line_at, half_at, lines_at, first_at, GoesOnAt, IsPrepared}
 use Rattle.rr_pages.specs.Laying.{AllStand}
 use Rattle.rr_images.specs.Progress.{AreSpare, Plan, IsBegun, Progress, Resting, Writing, Shutting, Filling, HasCome, IsBetween}
@@ -19,16 +19,23 @@ use Rattle.rr_images.proofs.Places.{root_low, half_low, half_high}
 use Rattle.rr_images.proofs.Framing.{fields_same, sound_longer, spelled_same, reached_in}
 use Rattle.rr_images.proofs.Steps.{torn_same, long}
 use Rattle.rr_images.proofs.Commits.{commit_leaves, taken_in, low_end, high_end}
-use Rattle.rr_images.proofs.Ticks.{stand_above, stands_written, only_content_of, plan_on}
+use Rattle.rr_images.proofs.Ticks.{stand_above, stands_written, only_content_of, plan_on, still_root}
+
+-- a record leaves the root, what it holds and what that spells
+pub line_root : {codec : Codec} (layout : Layout codec) (far : FarHalf) (line : List ℕ) (world : codec.World) → IsSameRoot layout (with_line_at layout far line world)
+line_root layout Unused line world = record { root = refl; base = refl; holding = refl }
+line_root layout Old line world = record { root = refl; base = refl; holding = refl }
+line_root layout (Begun lines) line world = record { root = refl; base = refl; holding = refl }
 
 module _ (codec : Codec) (layout : Layout codec) (world : codec.World) (line : List ℕ) (after : codec.World) (takes : codec.Takes line world after) (state : DiskState) (stays : IsImage state state.content) (half : Half) (number : ℕ) (goes_on : GoesOnAt layout half number)
     (room : HasRoom half.next_slot (length line)) (fits : number < 256 ^ 8) where
   -- a stop within the append leaves what was kept, or that with the line
-  pub append_leaves : EachImage state (λ image. KeepsAt codec layout image world) → (image : List ℕ) → MayLeave half state number line image → Keeps codec image world ⊎ Keeps codec image after
+  pub append_leaves : EachImage state (λ image. KeepsAt codec layout image world) → (image : List ℕ) → MayLeave half state number line image
+      → KeepsUnder codec (IsSameRoot layout) image world ⊎ KeepsUnder codec (IsSameRoot layout) image after
   append_leaves each image may =
       elim (commit_leaves codec layout world line after takes state half number goes_on each room fits image may) [
-        | inl kept ↦ inl (record { layout = layout; kept = kept })
-        | inr kept ↦ inr (record { layout = with_line layout line after; kept = kept })
+        | inl kept ↦ inl (record { layout = layout; kept = kept; is_root = still_root layout })
+        | inr kept ↦ inr (record { layout = with_line layout line after; kept = kept; is_root = line_root layout layout.far line after })
       ]
 
   abbrev pub taken_file : List ℕ

@@ -17,7 +17,7 @@ use Rattle.rr_pages.proofs.RootSpelling.{length-root, root_stands}
 use Rattle.rr_pages.proofs.Versions.{known_fits}
 use Rattle.rr_images.specs.Codec.{Codec}
 use Rattle.rr_images.specs.Holding.{pages_of}
-use Rattle.rr_images.specs.Layout.{Layout, FarHalf, Unused, Old, Begun, KeepsFar, KeepsAt, far_lines}
+use Rattle.rr_images.specs.Layout.{Layout, FarHalf, Unused, Old, Begun, KeepsFar, KeepsAt, IsSameRoot, IsEitherRoot, far_lines}
 use Rattle.rr_images.specs.Steps.{with_stale, with_far, flipped, behind_flip, lines_at, first_at, GoesOnAt}
 use Rattle.rr_images.specs.Progress.{Plan, IsPlan, IsNotBegun, Progress, Resting, Writing, Shutting, Filling, IsBetween}
 use Rattle.rr_images.specs.Calls.{far_gate, stale_gate, LeaveKept, Begins, WritesPage, ShutsStale, FillsRoot, TakesNewer, OpensRoot, FlipsRoots, Appends}
@@ -26,6 +26,7 @@ use Rattle.rr_images.proofs.Between.{append_leaves, append_done}
 use Rattle.rr_images.proofs.GoesOn.{goes_line}
 use Rattle.rr_images.proofs.OneWorld.{data_front, kept_stands}
 use Rattle.rr_images.proofs.Ticks as ticks
+use Rattle.rr_images.proofs.Ticks.{still_root}
 
 -- the chain's first page is one of its pages
 links_low : (file : List ℕ) (head count : ℕ) (pages text : List ℕ) → head ≢ 0 → Links file head pages text → AreData count pages → head < count
@@ -59,8 +60,8 @@ module _ (codec : Codec) (layout : Layout codec) (state : DiskState) (world : co
       | inr is ↦ absurd (shut (subst (λ (far : FarHalf). KeepsFar state.content (other_half layout.root.half) (layout.root.first + length layout.near) far) is far_there).0)
     ]
 
-    begin_leaves : LeaveKept codec world (MayShut state (far_gate layout))
-    begin_leaves image (inl was) = record { layout = layout; kept = each image was }
+    begin_leaves : LeaveKept codec (IsSameRoot layout) world (MayShut state (far_gate layout))
+    begin_leaves image (inl was) = record { layout = layout; kept = each image was; is_root = still_root layout }
     begin_leaves image (inr torn) = ticks.begin_leaves codec layout state world stays each (is_old torn.0) image torn.1
 
     begin_done : (plan : Plan) (new : DiskState) → IsPlan codec layout plan → Shuts state (far_gate layout) new → IsBetween codec (with_far layout (Begun [])) new (Writing plan [] plan.fresh) world
@@ -94,8 +95,8 @@ module _ (codec : Codec) (layout : Layout codec) (state : DiskState) (world : co
       is_older Shut is open_gate = absurd ((subst (λ (stale : Stale). IsStale state.content (not layout.side) layout.root.number stale) is stale_there) open_gate)
       is_older (Older older) is open_gate = (older, is)
 
-      shut_leaves : LeaveKept codec world (MayShut state (stale_gate layout))
-      shut_leaves image (inl was) = record { layout = layout; kept = between.each image was }
+      shut_leaves : LeaveKept codec (IsSameRoot layout) world (MayShut state (stale_gate layout))
+      shut_leaves image (inl was) = record { layout = layout; kept = between.each image was; is_root = still_root layout }
       shut_leaves image (inr torn) =
           let older = is_older layout.stale refl torn.0 in
           ticks.stale_leaves codec layout state world stays plan between older.0 older.1 image torn.1
@@ -208,10 +209,19 @@ module _ (codec : Codec) (layout : Layout codec) (state : DiskState) (world : co
     opening : OpensRoot codec (with_stale layout Shut) filled_state plan lines world
     opening = opens_root codec (with_stale layout Shut) filled_state world (synced_may_stay (after_write closed (stale_gate layout + 1) (root_bytes plan.root))) plan lines begun filling.done
 
-  flip_leaves : LeaveKept codec world (MayFlip state (stale_gate layout) (root_bytes plan.root))
-  flip_leaves image (While_shutting may) = (shuts_stale codec layout state world stays plan between).leaves image may
-  flip_leaves image (While_filling closed shuts torn) = record { layout = with_stale layout Shut; kept = (filling closed shuts).leaves image torn }
-  flip_leaves image (While_opening closed shuts torn) = (opening closed shuts).leaves image torn
+  either_still : (then : Layout codec) → IsEitherRoot (with_stale layout Shut) plan.holding then → IsEitherRoot layout plan.holding then
+  either_still then (inl same) = inl (record { root = same.root; base = same.base; holding = same.holding })
+  either_still then (inr coming) = inr (record { base = coming.base; holding = coming.holding })
+
+  flip_leaves : LeaveKept codec (IsEitherRoot layout plan.holding) world (MayFlip state (stale_gate layout) (root_bytes plan.root))
+  flip_leaves image (While_shutting may) =
+      let left = (shuts_stale codec layout state world stays plan between).leaves image may in
+      record { layout = left.layout; kept = left.kept; is_root = inl left.is_root }
+  flip_leaves image (While_filling closed shuts torn) =
+      record { layout = with_stale layout Shut; kept = (filling closed shuts).leaves image torn; is_root = inl (record { root = refl; base = refl; holding = refl }) }
+  flip_leaves image (While_opening closed shuts torn) =
+      let left = (opening closed shuts).leaves image torn in
+      record { layout = left.layout; kept = left.kept; is_root = either_still left.layout left.is_root }
 
   newer_still : (image : List ℕ) → TakesNewer codec (with_stale layout Shut) world image → TakesNewer codec layout world image
   newer_still image takes = record { stands = takes.stands; newer = takes.newer; base = takes.base; near = takes.near; nothing_far = takes.nothing_far }

@@ -14,7 +14,7 @@ use Rattle.rr_pages.specs.declared.root.Root.{Root}
 use Rattle.rr_pages.specs.Roots.{Stale, Shut, Older, root_gate, HasFields}
 use Rattle.rr_pages.specs.Pages.{IsIn}
 use Rattle.rr_images.specs.Holding.{Holding, reached_of, AllHeld}
-use Rattle.rr_images.specs.Layout.{Spelled, Layout, Unused, Old, Begun, KeepsAt, Keeps}
+use Rattle.rr_images.specs.Layout.{Spelled, Layout, Unused, Old, Begun, KeepsAt, KeepsUnder, IsSameRoot, IsEitherRoot}
 use Rattle.rr_images.specs.Steps.{with_far, with_stale, flipped, IsPrepared}
 use Rattle.rr_pages.specs.Laying.{PageStands, AllStand}
 use Rattle.rr_images.specs.Progress.{AreSpare, Plan, IsPlan, Resting, Writing, Shutting, Filling, IsBetween}
@@ -86,6 +86,10 @@ plan_on codec layout other_layout plan root near held middle is =
           (is.spells file (subst (λ (holding : Holding). AllHeld file holding.chains) held there) all);
     }
 
+-- a layout has its own root
+pub still_root : {codec : Codec} (layout : Layout codec) → IsSameRoot layout layout
+still_root layout = record { root = refl; base = refl; holding = refl }
+
 module _ (codec : Codec) (layout : Layout codec) (state : DiskState) (world : codec.World) (stays : IsImage state state.content) where
   -- the next fresh page is written
   module _ (plan : Plan) (done todo : List (ℕ × List ℕ)) (x : ℕ × List ℕ) (between : IsBetween codec layout state (Writing plan done (x ∷ todo)) world) where
@@ -120,11 +124,11 @@ module _ (codec : Codec) (layout : Layout codec) (state : DiskState) (world : co
 
   -- the stale root's gate is shut
   module _ (plan : Plan) (between : IsBetween codec layout state (Writing plan plan.fresh []) world) where
-    pub stale_leaves : (older : Root) → layout.stale ≡ Older older → (image : List ℕ) → TornFrom state (root_gate (not layout.side)) 1 image → Keeps codec image world
+    pub stale_leaves : (older : Root) → layout.stale ≡ Older older → (image : List ℕ) → TornFrom state (root_gate (not layout.side)) 1 image → KeepsUnder codec (IsSameRoot layout) image world
     stale_leaves older is image torn =
         elim (steps.stale_gate_torn codec layout world torn.earlier image (between.each torn.earlier torn.was) 1 older is torn.torn (omega arith)) [
-          | inl kept ↦ record { layout = layout; kept = kept }
-          | inr kept ↦ record { layout = with_stale layout Shut; kept = kept }
+          | inl kept ↦ record { layout = layout; kept = kept; is_root = still_root layout }
+          | inr kept ↦ record { layout = with_stale layout Shut; kept = kept; is_root = record { root = refl; base = refl; holding = refl } }
         ]
 
     shutting : (other_layout : Layout codec) (file : List ℕ) → other_layout ≡ with_stale layout Shut → KeepsAt codec (with_stale layout Shut) file world → AllStand file plan.fresh → (new : DiskState) → ((image : List ℕ) → IsImage new image → image ≡ file) → IsBetween codec (with_stale layout Shut) new (Shutting plan) world
@@ -200,11 +204,11 @@ module _ (codec : Codec) (layout : Layout codec) (state : DiskState) (world : co
 
   -- its gate is opened
   module _ (plan : Plan) (between : IsBetween codec layout state (Filling plan) world) where
-    pub flip_leaves : (image : List ℕ) → TornFrom state (root_gate (not layout.side)) 1 image → Keeps codec image world
+    pub flip_leaves : (image : List ℕ) → TornFrom state (root_gate (not layout.side)) 1 image → KeepsUnder codec (IsEitherRoot layout plan.holding) image world
     flip_leaves image torn =
         elim (steps.opened codec layout world torn.earlier image (between.each torn.earlier torn.was) plan.root plan.holding between.come.1.0 (between.come.3 torn.earlier torn.was) between.come.0.next between.come.2 between.come.1.1 1 torn.torn (omega arith)) [
-          | inl kept ↦ record { layout = layout; kept = kept }
-          | inr kept ↦ record { layout = flipped layout plan.root plan.holding between.come.1.0 world; kept = kept }
+          | inl kept ↦ record { layout = layout; kept = kept; is_root = inl (still_root layout) }
+          | inr kept ↦ record { layout = flipped layout plan.root plan.holding between.come.1.0 world; kept = kept; is_root = inr (record { base = refl; holding = refl }) }
         ]
 
     pub flip_done : IsBetween codec (flipped layout plan.root plan.holding between.come.1.0 world) (after_sync (after_write state (root_gate (not layout.side)) (165 ∷ []))) Resting world
@@ -224,11 +228,11 @@ module _ (codec : Codec) (layout : Layout codec) (state : DiskState) (world : co
     abbrev pub far_gate_of : ℕ
     far_gate_of = gate_place (other_half layout.root.half) 0
 
-    pub begin_leaves : layout.far ≡ Old → (image : List ℕ) → TornFrom state far_gate_of 1 image → Keeps codec image world
+    pub begin_leaves : layout.far ≡ Old → (image : List ℕ) → TornFrom state far_gate_of 1 image → KeepsUnder codec (IsSameRoot layout) image world
     begin_leaves is image torn =
         elim (steps.far_gate_torn codec layout world torn.earlier image (each torn.earlier torn.was) 1 is torn.torn (omega arith)) [
-          | inl kept ↦ record { layout = layout; kept = kept }
-          | inr kept ↦ record { layout = with_far layout Unused; kept = kept }
+          | inl kept ↦ record { layout = layout; kept = kept; is_root = still_root layout }
+          | inr kept ↦ record { layout = with_far layout Unused; kept = kept; is_root = record { root = refl; base = refl; holding = refl } }
         ]
 
     beginning : (plan : Plan) (file : List ℕ) (new : DiskState) → IsPlan codec layout plan → KeepsAt codec (with_far layout (Begun [])) file world → ((image : List ℕ) → IsImage new image → image ≡ file) → IsBetween codec (with_far layout (Begun [])) new (Writing plan [] plan.fresh) world

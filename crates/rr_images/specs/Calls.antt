@@ -11,7 +11,7 @@ use Rattle.rr_pages.specs.Journal.Stops.{next_gate, IsReady, MayLeave}
 use Rattle.rr_pages.specs.Device.{Shuts, MayShut, Flips, MayFlip}
 use Rattle.rr_pages.specs.Roots.{root_gate, root_bytes, Shut}
 use Rattle.rr_images.specs.Codec.{Codec}
-use Rattle.rr_images.specs.Layout.{Stands, Layout, Begun, KeepsAt, Keeps}
+use Rattle.rr_images.specs.Layout.{Stands, Layout, Begun, KeepsAt, KeepsUnder, IsSameRoot, IsEitherRoot}
 use Rattle.rr_images.specs.Progress.{Plan, IsPlan, Progress, Resting, Writing, Shutting, Filling, IsBetween}
 use Rattle.rr_images.specs.Steps.{with_stale, with_far, with_line, flipped, GoesOnAt}
 
@@ -26,9 +26,9 @@ stale_gate layout = root_gate (not layout.side)
 abbrev pub part_behind : Half → List ℕ → Half
 part_behind half line = record { index = half.index; next_slot = half.next_slot + slots_for (length line) }
 
--- what may be left keeps the world
-abbrev pub LeaveKept : (codec : Codec) → codec.World → (List ℕ → Type 0) → Type 0
-LeaveKept codec world MayBeLeft = (image : List ℕ) → MayBeLeft image → Keeps codec image world
+-- what may be left keeps the world under such a root
+abbrev pub LeaveKept : (codec : Codec) → (Layout codec → Type 0) → codec.World → (List ℕ → Type 0) → Type 0
+LeaveKept codec IsRoot world MayBeLeft = (image : List ℕ) → MayBeLeft image → KeepsUnder codec IsRoot image world
 
 -- After the last step of a checkpoint a file takes a newer root, whose chains spell the world before the first far
 -- record. Behind it stand the records since then, and none in the other half.
@@ -42,7 +42,7 @@ pub record TakesNewer (codec : Codec) (layout : Layout codec) (world : codec.Wor
 module _ (codec : Codec) (layout : Layout codec) (state : DiskState) where
   -- the other half's slot 0 is shut, and records go on there
   pub record Begins (world : codec.World) : Type 0 where
-    pub leaves : LeaveKept codec world (MayShut state (far_gate layout))
+    pub leaves : LeaveKept codec (IsSameRoot layout) world (MayShut state (far_gate layout))
     pub done : (plan : Plan) (new : DiskState) → IsPlan codec layout plan → Shuts state (far_gate layout) new
         → IsBetween codec (with_far layout (Begun [])) new (Writing plan [] plan.fresh) world
 
@@ -56,7 +56,7 @@ module _ (codec : Codec) (layout : Layout codec) (state : DiskState) where
 
   -- all fresh pages are written, and the stale root's gate is shut
   pub record ShutsStale (plan : Plan) (world : codec.World) : Type 0 where
-    pub leaves : LeaveKept codec world (MayShut state (stale_gate layout))
+    pub leaves : LeaveKept codec (IsSameRoot layout) world (MayShut state (stale_gate layout))
     pub done : (new : DiskState) → Shuts state (stale_gate layout) new
         → IsBetween codec (with_stale layout Shut) new (Shutting plan) world
 
@@ -72,13 +72,14 @@ module _ (codec : Codec) (layout : Layout codec) (state : DiskState) where
   opened_state = after_sync (after_write state (stale_gate layout) (OPEN ∷ []))
 
   pub record OpensRoot (plan : Plan) (lines : List (List ℕ)) (world : codec.World) : Type 0 where
-    pub leaves : LeaveKept codec world (TornFrom state (stale_gate layout) 1)
+    pub leaves : LeaveKept codec (IsEitherRoot layout plan.holding) world (TornFrom state (stale_gate layout) 1)
     pub done : IsBetween codec (flipped layout plan.root plan.holding lines world) opened_state Resting world
     pub renewed : EachImage opened_state (TakesNewer codec layout world)
 
   -- the last three steps in one call
   pub record FlipsRoots (plan : Plan) (lines : List (List ℕ)) (world : codec.World) : Type 0 where
-    pub leaves : LeaveKept codec world (MayFlip state (stale_gate layout) (root_bytes plan.root))
+    pub leaves : LeaveKept codec (IsEitherRoot layout plan.holding) world
+        (MayFlip state (stale_gate layout) (root_bytes plan.root))
     pub done : (new : DiskState) → Flips state (stale_gate layout) (root_bytes plan.root) new
         → IsBetween codec (flipped layout plan.root plan.holding lines world) new Resting world
     pub renewed : (new : DiskState) → Flips state (stale_gate layout) (root_bytes plan.root) new
@@ -92,6 +93,6 @@ module _ (codec : Codec) (layout : Layout codec) (state : DiskState) where
       (old new : codec.World) : Type 0 where
     pub ready : IsReady half state
     pub leaves : (image : List ℕ) → MayLeave half state number line image
-        → Keeps codec image old ⊎ Keeps codec image new
+        → KeepsUnder codec (IsSameRoot layout) image old ⊎ KeepsUnder codec (IsSameRoot layout) image new
     pub done : IsBetween codec (with_line layout line new) (appended_state half number line) progress new
     pub goes_on : GoesOnAt (with_line layout line new) (part_behind half line) (number + 1)

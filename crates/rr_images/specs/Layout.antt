@@ -1,5 +1,5 @@
 -- What a file stands for, and what the files of a store keep besides.
-use Rattle.std.specs.Prelude.{◌≢◌, ℕ, ◌+◌, ◌<◌, Bool, not, List, [], ◌∷◌, ◌++◌, length}
+use Rattle.std.specs.Prelude.{◌≡◌, ◌≢◌, ◌⊎◌, ℕ, ◌+◌, ◌<◌, Bool, not, List, [], ◌∷◌, ◌++◌, length}
 use Rattle.rr_pages.specs.declared.journal.layout.HalfIndex.{HalfIndex}
 use Rattle.rr_pages.specs.declared.journal.reading.RunEnd.{RunEnd}
 use Rattle.rr_pages.specs.declared.journal.reading.RunEnd.TheVariants.{Closed, Damaged}
@@ -84,6 +84,28 @@ pub record KeepsAt (codec : Codec) (layout : Layout codec) (file : List ℕ) (wo
 pub record Keeps (codec : Codec) (file : List ℕ) (world : codec.World) : Type 0 where
   pub layout : Layout codec
   pub kept : KeepsAt codec layout file world
+
+-- the same root is taken, which spells the same world and holds the same chains
+pub record IsSameRoot {codec : Codec} (old new : Layout codec) : Type 0 where
+  pub root : new.root ≡ old.root
+  pub base : new.base ≡ old.base
+  pub holding : new.holding ≡ old.holding
+
+-- the root that is taken is the one that was to hold this: it spells the world before the first far record
+pub record IsComingRoot {codec : Codec} (old : Layout codec) (coming : Holding) (new : Layout codec) : Type 0 where
+  pub base : new.base ≡ old.middle
+  pub holding : new.holding ≡ coming
+
+-- the root that is taken is the one from before, or the one that was coming
+abbrev pub IsEitherRoot : {codec : Codec} → Layout codec → Holding → Layout codec → Type 0
+IsEitherRoot old coming new = IsSameRoot old new ⊎ IsComingRoot old coming new
+
+-- a file of a store that keeps this world under such a root
+pub record KeepsUnder (codec : Codec) (IsRoot : Layout codec → Type 0) (file : List ℕ)
+    (world : codec.World) : Type 0 where
+  pub layout : Layout codec
+  pub kept : KeepsAt codec layout file world
+  pub is_root : IsRoot layout
 
 -- the layout of a file in which no record was put yet, and no checkpoint begun
 abbrev pub formatted : {codec : Codec} → Bool → Root → Holding → codec.World → Layout codec

@@ -6,7 +6,7 @@ use Rattle.rr_disk.specs.Moments.{EachImage}
 use Rattle.rr_images.specs.Calls.{TakesNewer}
 use Rattle.rr_images.specs.Codec.{Codec}
 use Rattle.rr_images.specs.Holding.{Holding}
-use Rattle.rr_images.specs.Layout.{Keeps, Layout, FarHalf, Unused, Old, Begun, far_lines}
+use Rattle.rr_images.specs.Layout.{KeepsUnder, Layout, FarHalf, Unused, Old, Begun, far_lines}
 use Rattle.rr_images.specs.Progress.{IsNotBegun}
 use Rattle.rr_images.specs.Steps.{with_line, with_line_at}
 use Rattle.rr_images.proofs.OneWorld.{kept_stands}
@@ -28,7 +28,7 @@ use Rattle.rr_checkpoint.specs.Checkpoint.{left_behind_first}
 use Rattle.rr_checkpoint.specs.Planning.{MayBegin, MayStart}
 use Rattle.rr_checkpoint.specs.Writer as file
 use Rattle.rr_checkpoint.specs.Writer.{Lowers, StaysTakenAt}
-use Rattle.rr_checkpoint.proofs.Writers.{base_is_carried, carried_kept}
+use Rattle.rr_checkpoint.proofs.Writers.{base_is_carried}
 use Rattle.rr_pages.specs.Journal.Layout.{HasRoom}
 use Rattle.rr_log.specs.declared.fault.Fault.{Fault}
 use Rattle.rr_log.specs.declared.fault.Fault.TheVariants as F
@@ -211,9 +211,9 @@ module _ {D R : Type 0} (rules : WorldRules) (log : Log D R) (state : DiskState)
   abbrev texts : TextChains
   texts = carries.kit.texts
 
-  -- each file that a stop may leave now keeps the world
-  pub kept_now : EachImage state (λ image. Keeps codec image world)
-  kept_now = carried_kept codec log.writer.file log.writer.checkpoint state world carries.carried
+  -- each file that a stop may leave now keeps the world, under the root that is taken
+  pub kept_under : (IsRoot : Layout codec → Type 0) → IsRoot layout → EachImage state (λ image. KeepsUnder codec IsRoot image world)
+  kept_under IsRoot is = λ image left. record { layout = layout; kept = carries.carried.between.each image left; is_root = is }
 
   -- behind the last step of a checkpoint each takes a newer root, of the next number
   pub renews_next : (before : Layout codec) → IsRenewed before layout → EachImage state (TakesNext codec before world)
@@ -447,11 +447,12 @@ half_behind None pages left old new some is same = inr (omega (arith, some, is))
 half_behind (Some first) pages left old new some is same = inl (same (λ none. cc none))
 
 -- it writes no page, or one of a plan for the layout
-pub starts_with : {C : Type 0} (codec : Codec) (writer : Writer C) (state : DiskState) (world : codec.World) (plan : Plan) (begun : Option ℕ) → file.Carries codec writer state world
-    → ((begun ≡ None → ⊥) → (carries : file.Carries codec writer state world) × MayBegin codec carries.layout (file.free_of writer) plan)
-    → (carries : file.Carries codec writer state world) × MayStart codec carries.layout (file.free_of writer) begun plan
-starts_with codec writer state world plan None carries found = (carries, tt)
-starts_with codec writer state world plan (Some first) carries found = found (λ none. cc none)
+pub starts_with : {C : Type 0} (codec : Codec) (writer : Writer C) (state : DiskState) (world : codec.World) (plan : Plan) (begun : Option ℕ) (layout : Layout codec)
+    → (carries : file.Carries codec writer state world) × (carries.layout ≡ layout)
+    → ((begun ≡ None → ⊥) → (carries : file.Carries codec writer state world) × MayBegin codec carries.layout (file.free_of writer) plan × (carries.layout ≡ layout))
+    → (carries : file.Carries codec writer state world) × MayStart codec carries.layout (file.free_of writer) begun plan × (carries.layout ≡ layout)
+starts_with codec writer state world plan None layout carries found = (carries.0, tt, carries.1)
+starts_with codec writer state world plan (Some first) layout carries found = found (λ none. cc none)
 
 -- a file isn't full where the pages fit and no number is the last
 all_false : (count page : ℕ) → get_or (replicate count false) page false ≡ false

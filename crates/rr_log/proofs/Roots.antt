@@ -1,9 +1,10 @@
 -- What becomes of the roots of a log.
 use Rattle.std.proofs.Common.{◌≡◌, ◌⊎◌, inl, inr, ℕ, ◌+◌, ◌<◌, List, length, Option, None, Some, refl, sym, ◌∙◌, ap, subst, arith}
+use Rattle.std.proofs.lemmas.Bool.{cases_eq}
 use Rattle.rr_disk.specs.Disk.{DiskState}
 use Rattle.rr_images.specs.Codec.{Codec}
 use Rattle.rr_images.specs.Holding.{Holding, texts_of}
-use Rattle.rr_images.specs.Layout.{Layout, FarHalf, Unused, Old, Begun, KeepsAt}
+use Rattle.rr_images.specs.Layout.{IsComingRoot, IsEitherRoot, IsSameRoot, Layout, FarHalf, Unused, Old, Begun, KeepsAt}
 use Rattle.rr_images.specs.Progress.{HasCome, IsBegun, Plan}
 use Rattle.rr_images.specs.Steps.{with_line_at}
 use Rattle.rr_images.proofs.Commits.{settled_may_stay}
@@ -14,6 +15,7 @@ use Rattle.rr_checkpoint.specs.declared.checkpoint.Stage.TheVariants as S
 use Rattle.rr_checkpoint.specs.declared.writer.Tick.{Tick}
 use Rattle.rr_checkpoint.specs.declared.writer.Tick.TheVariants.{Idle, More, Done}
 use Rattle.rr_checkpoint.specs.declared.writer.Writer.{Writer}
+use Rattle.rr_checkpoint.specs.Calls.{IsRootAt}
 use Rattle.rr_checkpoint.specs.Checkpoint.{left_of, plan_of, come_to, progress_of}
 use Rattle.rr_checkpoint.specs.Holds.{HoldsAt, HoldsWithRecord, RestsAt}
 use Rattle.rr_checkpoint.specs.OpenFile.{IsBegunAt}
@@ -22,7 +24,7 @@ use Rattle.rr_checkpoint.specs.Writer.{Lowers}
 use Rattle.rr_log.specs.declared.log.Log.{Log}
 use Rattle.rr_log.specs.Carrying.{Carries, HoldsWorld, IsBase}
 use Rattle.rr_log.specs.Log.{place_of, ticks_left}
-use Rattle.rr_log.specs.Roots.{IsComingRoot, IsSameRoot, KeepsRoots}
+use Rattle.rr_log.specs.Roots.{IsRootWithin, KeepsRoots}
 use Rattle.rr_log.proofs.Carried.{done_carries, more_carries}
 use Rattle.rr_reading.specs.declared.worlds.rules.Worlds.{Worlds}
 use Rattle.rr_reading.specs.Worlds.Spelling.{Spells, worlds}
@@ -183,6 +185,41 @@ record_roots rules log new state world carries line next layout coming left same
 -- two calls that leave the root
 same_twice : {rules : WorldRules} {before then after : Layout (worlds rules)} → IsSameRoot before then → IsSameRoot then after → IsSameRoot before after
 same_twice first second = record { root = second.root ∙ first.root; base = second.base ∙ first.base; holding = second.holding ∙ first.holding }
+
+-- within a call behind a step the root is the one from before that, or the one that the last step took
+pub root_behind : {D R : Type 0} {rules : WorldRules} {old new : Log D R} {due : List Snapshot} {before : Layout (worlds rules)} {coming : Holding} {after : Layout (worlds rules)} {coming_after : Holding}
+    → KeepsRoots old new due before coming after coming_after → (then : Layout (worlds rules)) → IsSameRoot after then → IsRootAt (ticks_left old) before coming then
+root_behind {old = old} {new = new} keeps then same = elim (cases_eq (ticks_left old) 1) [
+  | inl one ↦ elim (cases_eq (ticks_left new) 0) [
+    | inl none ↦
+        let taken = keeps.takes one none in
+        inr (one, record { base = same.base ∙ taken.base; holding = same.holding ∙ taken.holding })
+    | inr some ↦ inl (same_twice (keeps.stays (λ last none. some none)) same)
+  ]
+  | inr more ↦ inl (same_twice (keeps.stays (λ last none. more last)) same)
+]
+
+-- within a whole checkpoint it is the one from before, or the one that it takes
+module _ {D R : Type 0} {rules : WorldRules} {old : Log D R} {due : List Snapshot} {before : Layout (worlds rules)} {coming : Holding} where
+  pub within_under_way : 0 < ticks_left old → (then : Layout (worlds rules)) → IsEitherRoot before coming then → IsRootWithin old due before coming then
+  within_under_way some then (inl same) = inl same
+  within_under_way some then (inr taken) = inr (record { under_way = λ more. taken; whole = λ none. absurd (omega (arith, some, none)) })
+
+  pub within_step : (then : Layout (worlds rules)) → IsRootAt (ticks_left old) before coming then → IsRootWithin old due before coming then
+  within_step then (inl same) = inl same
+  within_step then (inr last) =
+      let one = last.0 in
+      inr (record { under_way = λ some. last.1; whole = λ none. absurd (omega (arith, none, one)) })
+
+  pub within_begun : {begun : Log D R} {after : Layout (worlds rules)} {coming_after : Holding} → ticks_left old ≡ 0 → 0 < ticks_left begun
+      → KeepsRoots old begun due before coming after coming_after → (then : Layout (worlds rules)) → IsEitherRoot after coming_after then → IsRootWithin old due before coming then
+  within_begun none some keeps then (inl same) = inl (same_twice (keeps.stays (λ one ended. omega (arith, none, one))) same)
+  within_begun none some keeps then (inr taken) =
+      let begins = keeps.begins none some in
+      inr (record {
+        under_way = λ more. absurd (omega (arith, more, none));
+        whole = λ rests. (taken.base ∙ begins.0, subst (λ (h : Holding). HoldsWorld before.middle due h) (sym taken.holding) begins.1);
+      })
 
 -- a record behind a step
 pub then_record : {D R : Type 0} {rules : WorldRules} {old ticked new : Log D R} {due : List Snapshot} {before then after : Layout (worlds rules)} {coming coming_then coming_after : Holding}

@@ -1,23 +1,12 @@
 -- What becomes of the roots of a log by a call.
 use Rattle.std.specs.Prelude.{◌≡◌, ◌⊎◌, ◌<◌, List, None}
 use Rattle.rr_images.specs.Holding.{Holding}
-use Rattle.rr_images.specs.Layout.{Layout}
+use Rattle.rr_images.specs.Layout.{IsComingRoot, IsSameRoot, Layout}
 use Rattle.rr_log.specs.declared.log.Log.{Log}
 use Rattle.rr_log.specs.Carrying.{HoldsWorld}
 use Rattle.rr_log.specs.Log.{ticks_left}
 use Rattle.rr_reading.specs.Worlds.Spelling.{worlds}
 use Rattle.rr_reading.specs.Worlds.World.{Snapshot, WorldRules}
-
--- the same root is taken, which spells the same world and holds the same chains
-pub record IsSameRoot {rules : WorldRules} (old new : Layout (worlds rules)) : Type 0 where
-  pub root : new.root ≡ old.root
-  pub base : new.base ≡ old.base
-  pub holding : new.holding ≡ old.holding
-
--- the root that is taken is the one that was to hold this: it spells the world before the first record of the other half
-pub record IsComingRoot {rules : WorldRules} (old : Layout (worlds rules)) (coming : Holding) (new : Layout (worlds rules)) : Type 0 where
-  pub base : new.base ≡ old.middle
-  pub holding : new.holding ≡ coming
 
 -- A step of a checkpoint, or a record with the step before it, leaves the root that is taken, but for the last step: then
 -- it is the one that was coming. While a checkpoint is under way, the world before the first record of the other half
@@ -38,3 +27,8 @@ pub record TakesRoot {D R : Type 0} {rules : WorldRules} (old : Log D R) (due : 
     (before : Layout (worlds rules)) (coming : Holding) (after : Layout (worlds rules)) : Type 0 where
   pub under_way : 0 < ticks_left old → IsComingRoot before coming after
   pub whole : ticks_left old ≡ 0 → (after.base ≡ before.middle) × HoldsWorld before.middle due after.holding
+
+-- at any moment of a whole checkpoint the root that is taken is the one from before it, or already the one behind it
+abbrev pub IsRootWithin : {D R : Type 0} {rules : WorldRules} → Log D R → List Snapshot → Layout (worlds rules) → Holding
+    → Layout (worlds rules) → Type 0
+IsRootWithin old due before coming then = IsSameRoot before then ⊎ TakesRoot old due before coming then

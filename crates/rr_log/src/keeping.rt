@@ -1,9 +1,10 @@
 // Records.
 ghost use Rattle.std.specs.Prelude.{◌≡◌, ◌⊎◌, ◌↔◌, ◌+◌, ◌^◌, ◌<◌, ◌≤◌, false, List, length, IfOk, IfErr, IsErrOf, IsTrue, OnOk, None, Ok, Err};
-ghost use Rattle.rr_checkpoint.specs.Calls.{LeavesKept, LeavesEither};
+ghost use Rattle.rr_checkpoint.specs.Calls.{IsRootAt, LeavesKept, LeavesEither};
 ghost use Rattle.rr_checkpoint.specs.Holds.{IsRenewed};
 ghost use Rattle.rr_disk.specs.Moments.{EachImage};
 ghost use Rattle.rr_images.specs.Calls.{TakesNewer};
+ghost use Rattle.rr_images.specs.Layout.{IsSameRoot};
 ghost use Rattle.rr_images.specs.Steps.{with_line};
 ghost use Rattle.rr_log.specs.Fault.{CountsFault, IsWant, OnDeviceFault, ends_broken};
 ghost use Rattle.rr_log.specs.Lent.{AreLentOf, lent_of};
@@ -34,12 +35,14 @@ impl<D: Disk + Drop, R: Rules> Log<D, R> {
     pub fn keep<T: TablesInWords>(&mut self, tables: &T, line: &[u8]) -> Result<(), Fault>
         requires { 0 < length line.now }
 
-        // Whatever a stop leaves at any moment keeps the world from before the record, or the one behind it, and the
-        // log carries on the one that the answer tells.
+        // Whatever a stop leaves at any moment keeps the world from before the record, or the one behind it, under the
+        // root from before or, where the tick is the last one of a checkpoint, under the coming one; and the log carries
+        // on the world that the answer tells.
         ensures stops { D.Honest (disk_of self.new) → (old new : World) → R.rules.takes line.now old new
             → HaveSameTexts old new → AreLentOf R.rules old (lent_of T.TablesInWords tables.now)
-            → Carries R.rules self.old (D.state (disk_of self.old)) old
-            → LeavesEither (worlds R.rules) (D.past (disk_of self.old)) (D.state (disk_of self.old))
+            → (carries : Carries R.rules self.old (D.state (disk_of self.old)) old)
+            → LeavesEither (worlds R.rules) (IsRootAt (ticks_left self.old) carries.carried.layout carries.carried.holding)
+            (D.past (disk_of self.old)) (D.state (disk_of self.old))
             (D.past (disk_of self.new)) (D.state (disk_of self.new)) old new }
         ensures carries { D.Honest (disk_of self.new) → is_broken self.new ≡ false → (old new : World)
             → R.rules.takes line.now old new → HaveSameTexts old new → AreLentOf R.rules old (lent_of T.TablesInWords tables.now)
@@ -132,8 +135,9 @@ impl<D: Disk + Drop, R: Rules> Log<D, R> {
     fn tick_before<T: TablesInWords>(&mut self, tables: &T) -> Result<Fault, Fault>
         requires { is_broken self.old ≡ false }
         ensures stops { D.Honest (disk_of self.new) → (world : World)
-            → Carries R.rules self.old (D.state (disk_of self.old)) world
-            → LeavesKept (worlds R.rules) (D.past (disk_of self.old)) (D.state (disk_of self.old))
+            → (carries : Carries R.rules self.old (D.state (disk_of self.old)) world)
+            → LeavesKept (worlds R.rules) (IsRootAt (ticks_left self.old) carries.carried.layout carries.carried.holding)
+            (D.past (disk_of self.old)) (D.state (disk_of self.old))
             (D.past (disk_of self.new)) (D.state (disk_of self.new)) world }
         ensures carries { D.Honest (disk_of self.new) → is_broken self.new ≡ false → (world : World)
             → AreLentOf R.rules world (lent_of T.TablesInWords tables.now) → Carries R.rules self.old (D.state (disk_of self.old)) world
@@ -196,8 +200,9 @@ impl<D: Disk + Drop, R: Rules> Log<D, R> {
         requires number { next_number self.old < 2 ^ 63 }
         requires full { IsWant full ⊎ (full ≡ Fault.HalfFull) }
         ensures stops { D.Honest (disk_of self.new) → (old new : World) → R.rules.takes line.now old new
-            → Carries R.rules self.old (D.state (disk_of self.old)) old
-            → LeavesEither (worlds R.rules) (D.past (disk_of self.old)) (D.state (disk_of self.old))
+            → (carries : Carries R.rules self.old (D.state (disk_of self.old)) old)
+            → LeavesEither (worlds R.rules) (IsSameRoot carries.carried.layout)
+            (D.past (disk_of self.old)) (D.state (disk_of self.old))
             (D.past (disk_of self.new)) (D.state (disk_of self.new)) old new }
         ensures carries { D.Honest (disk_of self.new) → is_broken self.new ≡ false → (old new : World)
             → R.rules.takes line.now old new → HaveSameTexts old new

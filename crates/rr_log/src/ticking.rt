@@ -1,11 +1,12 @@
 // Checkpoints, in ticks.
 ghost use Rattle.std.specs.Prelude.{◌≡◌, ◌⊎◌, ◌↔◌, ◌+◌, ◌<◌, ◌≤◌, false, List, OnOk, OnErr, IfOk, IfErr, IsErrOf, IsTrue, None};
-ghost use Rattle.rr_checkpoint.specs.Calls.{LeavesKept};
+ghost use Rattle.rr_checkpoint.specs.Calls.{IsRootAt, LeavesKept};
 ghost use Rattle.rr_checkpoint.specs.Growing.{AreReclaimed, GrowsWhereFull};
 ghost use Rattle.rr_checkpoint.specs.Holds.{IsRenewed};
 ghost use Rattle.rr_checkpoint.specs.Writer.{RenewsAt, Lowers};
 ghost use Rattle.rr_disk.specs.Moments.{EachImage};
 ghost use Rattle.rr_images.specs.Calls.{TakesNewer};
+ghost use Rattle.rr_images.specs.Layout.{IsComingRoot, IsEitherRoot};
 ghost use Rattle.rr_log.specs.Fault.{CountsFault, IsWant, OnDeviceFault, ends_broken};
 ghost use Rattle.rr_log.specs.Lent.{AreLentOf, lent_of};
 ghost use Rattle.rr_pages.specs.FreePages.{coming_of, present_of};
@@ -26,7 +27,7 @@ impl<D: Disk + Drop, R: Rules> Log<D, R> {
     ghost use Rattle.rr_log.specs.Carrying.{Carries, HoldsWorld};
     ghost use Rattle.rr_log.specs.Growing.{Grows, TakesPages};
     ghost use Rattle.rr_log.specs.Log.{disk_of, free_of, is_broken, known_snapshots, next_number, place_of, root_number, ticks_left, HasNoneBegun, IsDue};
-    ghost use Rattle.rr_log.specs.Roots.{IsComingRoot, KeepsRoots, TakesRoot};
+    ghost use Rattle.rr_log.specs.Roots.{IsRootWithin, KeepsRoots, TakesRoot};
 
     /// Makes one step of a checkpoint: it goes on with the one under way, or begins one where an opening found it begun
     /// or at least 128 slots of the half in use are used. The tables are those of the world that the log carries, and
@@ -38,10 +39,12 @@ impl<D: Disk + Drop, R: Rules> Log<D, R> {
     /// `OpenAgain`; `DeviceFailed`, after which the log is broken; in a first tick also `FileFull` and `OutOfMemory`,
     /// before any device call: then the log goes on, and the next tick begins anew.
     pub fn tick<T: TablesInWords>(&mut self, tables: &T) -> Result<Tick, Fault>
-        // Whatever a stop leaves at any moment keeps the world, and the log carries it on.
+        // Whatever a stop leaves at any moment keeps the world under the root from before, or within the last step under
+        // the coming one, and the log carries it on.
         ensures stops { D.Honest (disk_of self.new) → (world : World)
-            → Carries R.rules self.old (D.state (disk_of self.old)) world
-            → LeavesKept (worlds R.rules) (D.past (disk_of self.old)) (D.state (disk_of self.old))
+            → (carries : Carries R.rules self.old (D.state (disk_of self.old)) world)
+            → LeavesKept (worlds R.rules) (IsRootAt (ticks_left self.old) carries.carried.layout carries.carried.holding)
+            (D.past (disk_of self.old)) (D.state (disk_of self.old))
             (D.past (disk_of self.new)) (D.state (disk_of self.new)) world }
         ensures carries { D.Honest (disk_of self.new) → is_broken self.new ≡ false → (world : World)
             → AreLentOf R.rules world (lent_of T.TablesInWords tables.now) → Carries R.rules self.old (D.state (disk_of self.old)) world
@@ -111,8 +114,9 @@ impl<D: Disk + Drop, R: Rules> Log<D, R> {
     pub(crate) fn step<T: TablesInWords>(&mut self, tables: &T) -> Result<Tick, Fault>
         requires { is_broken self.old ≡ false }
         ensures stops { D.Honest (disk_of self.new) → (world : World)
-            → Carries R.rules self.old (D.state (disk_of self.old)) world
-            → LeavesKept (worlds R.rules) (D.past (disk_of self.old)) (D.state (disk_of self.old))
+            → (carries : Carries R.rules self.old (D.state (disk_of self.old)) world)
+            → LeavesKept (worlds R.rules) (IsRootAt (ticks_left self.old) carries.carried.layout carries.carried.holding)
+            (D.past (disk_of self.old)) (D.state (disk_of self.old))
             (D.past (disk_of self.new)) (D.state (disk_of self.new)) world }
         ensures carries { D.Honest (disk_of self.new) → is_broken self.new ≡ false → (world : World)
             → AreLentOf R.rules world (lent_of T.TablesInWords tables.now) → Carries R.rules self.old (D.state (disk_of self.old)) world
@@ -198,8 +202,9 @@ impl<D: Disk + Drop, R: Rules> Log<D, R> {
         requires whole { is_broken self.old ≡ false }
         requires under_way { 0 < ticks_left self.old }
         ensures stops { D.Honest (disk_of self.new) → (world : World)
-            → Carries R.rules self.old (D.state (disk_of self.old)) world
-            → LeavesKept (worlds R.rules) (D.past (disk_of self.old)) (D.state (disk_of self.old))
+            → (carries : Carries R.rules self.old (D.state (disk_of self.old)) world)
+            → LeavesKept (worlds R.rules) (IsRootAt (ticks_left self.old) carries.carried.layout carries.carried.holding)
+            (D.past (disk_of self.old)) (D.state (disk_of self.old))
             (D.past (disk_of self.new)) (D.state (disk_of self.new)) world }
         ensures carries { D.Honest (disk_of self.new) → is_broken self.new ≡ false → (world : World)
             → Carries R.rules self.old (D.state (disk_of self.old)) world
@@ -253,8 +258,9 @@ impl<D: Disk + Drop, R: Rules> Log<D, R> {
         requires whole { is_broken self.old ≡ false }
         requires resting { ticks_left self.old ≡ 0 }
         ensures stops { D.Honest (disk_of self.new) → (world : World)
-            → Carries R.rules self.old (D.state (disk_of self.old)) world
-            → LeavesKept (worlds R.rules) (D.past (disk_of self.old)) (D.state (disk_of self.old))
+            → (carries : Carries R.rules self.old (D.state (disk_of self.old)) world)
+            → LeavesKept (worlds R.rules) (IsRootAt (ticks_left self.old) carries.carried.layout carries.carried.holding)
+            (D.past (disk_of self.old)) (D.state (disk_of self.old))
             (D.past (disk_of self.new)) (D.state (disk_of self.new)) world }
         ensures carries { D.Honest (disk_of self.new) → is_broken self.new ≡ false → (world : World)
             → AreLentOf R.rules world (lent_of T.TablesInWords tables.now) → Carries R.rules self.old (D.state (disk_of self.old)) world
@@ -317,10 +323,14 @@ impl<D: Disk + Drop, R: Rules> Log<D, R> {
     /// `OpenAgain`; `DeviceFailed`, after which the log is broken; where it begins one also `FileFull` and
     /// `OutOfMemory`, before any device call: then the log goes on.
     pub fn checkpoint<T: TablesInWords>(&mut self, tables: &T) -> Result<(), Fault>
-        // Whatever a stop leaves at any moment keeps the world, and the log carries it on.
+        // Whatever a stop leaves at any moment keeps the world under the root from before, or under the one that the
+        // checkpoint takes, and the log carries it on.
         ensures stops { D.Honest (disk_of self.new) → (world : World) → AreLentOf R.rules world (lent_of T.TablesInWords tables.now)
-            → Carries R.rules self.old (D.state (disk_of self.old)) world
-            → LeavesKept (worlds R.rules) (D.past (disk_of self.old)) (D.state (disk_of self.old))
+            → (carries : Carries R.rules self.old (D.state (disk_of self.old)) world)
+            → LeavesKept (worlds R.rules) (IsRootWithin self.old
+            (tables_due self.old.base (lent_of T.TablesInWords tables.now)).snapshots
+            carries.carried.layout carries.carried.holding)
+            (D.past (disk_of self.old)) (D.state (disk_of self.old))
             (D.past (disk_of self.new)) (D.state (disk_of self.new)) world }
         ensures carries { D.Honest (disk_of self.new) → is_broken self.new ≡ false → (world : World)
             → AreLentOf R.rules world (lent_of T.TablesInWords tables.now) → Carries R.rules self.old (D.state (disk_of self.old)) world
@@ -422,8 +432,9 @@ impl<D: Disk + Drop, R: Rules> Log<D, R> {
         requires whole { is_broken self.old ≡ false }
         requires under_way { 0 < ticks_left self.old }
         ensures stops { D.Honest (disk_of self.new) → (world : World)
-            → Carries R.rules self.old (D.state (disk_of self.old)) world
-            → LeavesKept (worlds R.rules) (D.past (disk_of self.old)) (D.state (disk_of self.old))
+            → (carries : Carries R.rules self.old (D.state (disk_of self.old)) world)
+            → LeavesKept (worlds R.rules) (IsEitherRoot carries.carried.layout carries.carried.holding)
+            (D.past (disk_of self.old)) (D.state (disk_of self.old))
             (D.past (disk_of self.new)) (D.state (disk_of self.new)) world }
         ensures carries { D.Honest (disk_of self.new) → is_broken self.new ≡ false → (world : World)
             → Carries R.rules self.old (D.state (disk_of self.old)) world

@@ -44,10 +44,10 @@ use Rattle.rr_store.specs.Files.{AreTablesOf}
 use Rattle.rr_store.specs.Held.{Accepted, Again, Fails, Held, NoRoom, Refused, Takes, Wants, stamp_after, with_tables}
 use Rattle.rr_store.specs.Holding.{Carries, GamesArePlayed, GamesHaveSnapshots, HasNoRoom, IsFull, IsUnchanged, disk_of, file_of, held_of, lent_of, number_of_next, replayed_of, ticks_left}
 use Rattle.rr_store.specs.Keeping.{GrowsInAll, Keeping, MakesAtMost, length_on}
-use Rattle.rr_store.specs.Named.{KeepsNames, LendsNamed, NamesComing, NamesRoots}
+use Rattle.rr_store.specs.Named.{KeepsNames, LendsNamed, NamesComing, NamesRoots, NamesSnapshots}
 use Rattle.rr_store.specs.World.{World, for_table, judgement_in, world_after}
 use Rattle.rr_store.proofs.Keepings.{grown_not}
-use Rattle.rr_store.proofs.NamedRoots.{names_there, names_unchanged, roots_there, store_named}
+use Rattle.rr_store.proofs.NamedRoots.{images_named, names_there, names_unchanged, root_named, roots_there, store_named}
 use Rattle.rr_store.proofs.Standing.{carried_keeps, carried_lent, carried_now, keeps_either, record_leads, stands_either, tables_after}
 use Rattle.rr_store.proofs.Verdicts.{no_again, no_failure, no_full}
 
@@ -155,6 +155,12 @@ module _ {D : Type 0} (Honest Works : D → Type 0) (state : D → DiskState) (p
         carries = λ h whole texts s. carried texts s;
         renews = λ whole one none h texts s. let left : ticks_left new ≡ ticks_left old = ap (λ (f : Log D TableRules). file.ticks_left f) same.same_file in absurd (omega (arith, one, none, left));
         names = λ h whole texts s lends. names_unchanged state old new texts same;
+        names_stops = λ h texts s lends names. record {
+          since = [];
+          goes_on = λ i. state (same_disk i) ∷ past (same_disk i);
+          first = images_named state old texts names;
+          each = tt;
+        };
         renews_names = λ h whole one none texts s names. let left : ticks_left new ≡ ticks_left old = ap (λ (f : Log D TableRules). file.ticks_left f) same.same_file in absurd (omega (arith, one, none, left));
         number = number_same fault (number_of_next old) (number_of_next new) (ap (λ (f : Log D TableRules). next_number f) same.same_file);
         spares = spares_same old new fault same;
@@ -242,6 +248,21 @@ module _ {D : Type 0} (Honest Works : D → Type 0) (state : D → DiskState) (p
         weaker (k.stops h (in_words texts tables_now) (in_words texts behind) (record_leads texts kit_now tables_now stamp (for_table name c) is_lawful s.tables_of_kit) (carried_lent state old texts s) s.file)
         (KeepsTablesOr texts kit_now tables_now (Some (for_table name c))) (keeps_either texts kit_now tables_now stamp (for_table name c) is_lawful s.tables_of_kit)
 
+    named_by : (kept : Kept) → (Played → Lawful) → KeptBy (file_of old) kept (file_of new) → Honest (disk_of new) → (texts : KitTexts) → Carries state old texts
+        → ((ticks_left old ≡ 0) ⊎ IsFull old name c → LendsNamed old) → NamesRoots state old texts
+        → LeavesOnly (past (disk_of old)) (state (disk_of old)) (past (disk_of new)) (state (disk_of new)) (NamesSnapshots kit_now)
+    named_by kept lawful k h texts s lends names =
+        let before = in_words texts tables_now in
+        let after = in_words texts behind in
+        weaker
+        (k.names_stops h kit_now before after (record_leads texts kit_now tables_now stamp (for_table name c) (lawful_in texts s (lawful s.played)) s.tables_of_kit) (carried_lent state old texts s)
+        (λ may. store_named state old texts s (lends may)) names)
+        (NamesSnapshots kit_now)
+        (λ image left. elim left [
+          | inl kept ↦ root_named image kit_now kept.layout before kept.kept kept.is_root
+          | inr kept ↦ root_named image kit_now kept.layout after kept.kept kept.is_root
+        ])
+
     grown_by : (kept : Kept) → KeptBy (file_of old) kept (file_of new) → (IsFull old name c → ⊥) → Honest (disk_of new) → (texts : KitTexts) → Carries state old texts
         → Grows (length_on state) (file_of old) (file_of new)
     grown_by kept k room h texts s = k.grows room h (in_words texts tables_now) (carried_lent state old texts s) s.file
@@ -264,6 +285,7 @@ module _ {D : Type 0} (Honest Works : D → Type 0) (state : D → DiskState) (p
           allowed = λ h texts s. passed_by (Ok tt) (Ok n) lawful k h texts s
               (λ moments. (lawful_in texts s (lawful s.played), subst (λ (w : World). Keeps (state (disk_of new)) texts w) (ap (λ (x : Held). x.tables) (held_is s.played)) (carried_keeps state new texts (on h texts s))));
           keeps = kept_by (Ok tt) lawful k;
+          names_stops = named_by (Ok tt) lawful k;
           carries = λ h whole texts s. on h texts s;
           renews = λ whole one none h texts s.
               subst (λ (x : Held). EachImage (state (disk_of new)) (TakesNewer table_files (layout_behind (Ok n) s.file.carried.layout bytes_of (in_words texts x.tables)) (in_words texts x.tables))) (sym (held_is s.played))
@@ -321,6 +343,7 @@ module _ {D : Type 0} (Honest Works : D → Type 0) (state : D → DiskState) (p
           honest = k.honest;
           allowed = λ h texts s. passed_by (Err L.DeviceFailed) (Err F.DeviceFailed) lawful k h texts s (λ moments. lawful_in texts s (lawful s.played));
           keeps = kept_by (Err L.DeviceFailed) lawful k;
+          names_stops = named_by (Err L.DeviceFailed) lawful k;
           carries = λ h whole texts s. let both : true ≡ false = sym k.broken ∙ whole in absurd (cc both);
           renews = λ whole one none h texts s. let both : true ≡ false = sym k.broken ∙ whole in absurd (cc both);
           names = λ h whole texts s lends. let both : true ≡ false = sym k.broken ∙ whole in absurd (cc both);
@@ -391,6 +414,7 @@ module _ {D : Type 0} (Honest Works : D → Type 0) (state : D → DiskState) (p
           honest = k.honest;
           allowed = λ h texts s. passed_by (Err L.FileFull) (Err F.FileFull) lawful k h texts s (λ moments. keeps_on L.FileFull lawful k k.broken held_is h texts s);
           keeps = kept_by (Err L.FileFull) lawful k;
+          names_stops = named_by (Err L.FileFull) lawful k;
           carries = λ h whole texts s. goes_on L.FileFull lawful k whole held_is h texts s;
           renews = λ whole one none h texts s. renews_on L.FileFull lawful k whole held_is one none h texts s;
           names = λ h whole texts s lends. names_on L.FileFull lawful k whole held_is h texts s lends;
@@ -426,6 +450,7 @@ module _ {D : Type 0} (Honest Works : D → Type 0) (state : D → DiskState) (p
           honest = k.honest;
           allowed = λ h texts s. passed_by (Err L.OutOfMemory) (Err F.OutOfMemory) lawful k h texts s (λ moments. keeps_on L.OutOfMemory lawful k k.broken held_is h texts s);
           keeps = kept_by (Err L.OutOfMemory) lawful k;
+          names_stops = named_by (Err L.OutOfMemory) lawful k;
           carries = λ h whole texts s. goes_on L.OutOfMemory lawful k whole held_is h texts s;
           renews = λ whole one none h texts s. renews_on L.OutOfMemory lawful k whole held_is one none h texts s;
           names = λ h whole texts s lends. names_on L.OutOfMemory lawful k whole held_is h texts s lends;

@@ -44,10 +44,10 @@ use Rattle.rr_store.proofs.Steps.{ends_so, first_of}
 use Rattle.rr_store.proofs.Worlds.{kept_stand}
 
 -- the moments of a call are those of which its contract tells
-same_moments : (told moments past_old past_new : List DiskState) (old new : DiskState) → new ∷ past_new ≡ told ++ old ∷ past_old → new ∷ past_new ≡ moments ++ old ∷ past_old → told ≡ moments
+pub same_moments : (told moments past_old past_new : List DiskState) (old new : DiskState) → new ∷ past_new ≡ told ++ old ∷ past_old → new ∷ past_new ≡ moments ++ old ∷ past_old → told ≡ moments
 same_moments told moments past_old past_new old new one other = append_cancel_right told moments (old ∷ past_old) (sym one ∙ other)
 
-each_moment : (past_old past_new : List DiskState) (old new : DiskState) (P : List ℕ → Type 0) → LeavesOnly past_old old past_new new P
+pub each_moment : (past_old past_new : List DiskState) (old new : DiskState) (P : List ℕ → Type 0) → LeavesOnly past_old old past_new new P
     → (moments : List DiskState) → new ∷ past_new ≡ moments ++ old ∷ past_old → EachImageOf moments P
 each_moment past_old past_new old new P leaves moments passes =
     subst (λ (m : List DiskState). EachImageOf m P) (same_moments leaves.since moments past_old past_new old new leaves.goes_on passes) leaves.each

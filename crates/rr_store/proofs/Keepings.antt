@@ -1,15 +1,16 @@
 -- What keeping a record does, from what the open file does.
 use Rattle.std.proofs.Common.{◌≡◌, ◌⊎◌, ◌↔◌, ℕ, ◌+◌, ◌^◌, ◌<◌, ◌≤◌, Bool, true, false, List, length, Option, None, Some, Result, Ok, Err, IfErr, IsErrOf, IsTrue, OnErr, OnOk, inl, inr, refl, sym, ap, subst, ◌∙◌, arith}
 use Rattle.std.proofs.lemmas.Bool.{cases_eq, cases_lt}
-use Rattle.rr_checkpoint.specs.Calls.{LeavesEither, LeavesKept}
+use Rattle.rr_checkpoint.specs.Calls.{IsRootAt, LeavesEither, LeavesKept}
 use Rattle.rr_checkpoint.specs.Growing.{AreReclaimed, GrowsWhereFull}
 use Rattle.rr_checkpoint.proofs.Growing.{grows_on}
-use Rattle.rr_checkpoint.proofs.Writers.{carried_kept}
+use Rattle.rr_checkpoint.proofs.Writers.{carried_kept, either_kept, either_under}
 use Rattle.rr_disk.specs.Disk.{DiskState}
-use Rattle.rr_disk.specs.Moments.{EachImage}
+use Rattle.rr_disk.specs.Moments.{EachImage, LeavesOnly}
 use Rattle.rr_disk.proofs.MomentLemmas.{joins, started, weaker}
 use Rattle.rr_images.specs.Calls.{TakesNewer}
-use Rattle.rr_images.specs.Layout.{Keeps}
+use Rattle.rr_images.specs.Layout.{Keeps, KeepsUnder, Layout}
+use Rattle.rr_images.proofs.Ticks.{still_root}
 use Rattle.rr_pages.specs.FreePages.{coming_of, present_of}
 use Rattle.rr_pages.specs.declared.journal.half.Half.{Half}
 use Rattle.rr_pages.specs.Journal.Layout.{HasRoom}
@@ -23,8 +24,9 @@ use Rattle.rr_log.specs.Carrying.{Carries, HaveSameTexts}
 use Rattle.rr_log.specs.Fault.{CountsFault, IsWant, OnDeviceFault, ends_broken}
 use Rattle.rr_log.specs.Log.{HasNoRoom, IsDue, IsPastLast, IsTooLong, disk_of, free_of, is_broken, next_number, place_of, ticks_left}
 use Rattle.rr_log.specs.Growing.{Grows, TakesPages}
-use Rattle.rr_log.specs.Roots.{KeepsRoots}
+use Rattle.rr_log.specs.Roots.{IsRootWithin, KeepsRoots}
 use Rattle.rr_log.proofs.Carried.{device_more}
+use Rattle.rr_log.proofs.Roots.{within_step}
 use Rattle.rr_log.proofs.Growing.{grows_to, grows_told, pages_still, stays_long}
 use Rattle.rr_tables.specs.declared.records.rules.TableRules.{TableRules}
 use Rattle.rr_tables.specs.Records.Taking.{Takes, table_files, table_rules}
@@ -32,8 +34,8 @@ use Rattle.rr_kit.specs.declared.kit.Kit.{Kit}
 use Rattle.rr_kit.specs.Kits.{KitTexts}
 use Rattle.rr_log.specs.Lent.{AreLentOf, Lent, pages_of}
 use Rattle.rr_reading.specs.Worlds.World as words
-use Rattle.rr_store.specs.NamedRoots.{AreTheirSnapshots, KeepsNames, NamesComing, NamesRoots}
-use Rattle.rr_store.proofs.KeptNames.{keeps_names, names_on, names_still, renews_names, rests_named}
+use Rattle.rr_store.specs.NamedRoots.{AreTheirSnapshots, IsNamed, KeepsNames, NamesComing, NamesRoots}
+use Rattle.rr_store.proofs.KeptNames.{keeps_names, named_within, names_on, names_still, renews_names, rests_named}
 use Rattle.rr_store.specs.Keeping.{AreComing, ComesOn, GrowsInAll, IsFull, Keeping, MakesAtMost, length_on, told_of}
 
 abbrev Kept : Type 0
@@ -170,8 +172,8 @@ module _ {D : Type 0} (Honest Works : D → Type 0) (state : D → DiskState) (p
   -- what one attempt to keep the record does
   pub record Tried (old : Logs) (result : Kept) (new : Logs) : Type 0 where
     pub stops : Honest (disk_of new) → (before behind : words.World) → Takes bytes before behind → HaveSameTexts before behind → AreLentOf table_rules before tables
-        → Carries table_rules old (state (disk_of old)) before
-        → LeavesEither table_files (past (disk_of old)) (state (disk_of old)) (past (disk_of new)) (state (disk_of new)) before behind
+        → (carries : Carries table_rules old (state (disk_of old)) before)
+        → LeavesEither table_files (IsRootAt (ticks_left old) carries.carried.layout carries.carried.holding) (past (disk_of old)) (state (disk_of old)) (past (disk_of new)) (state (disk_of new)) before behind
     pub carries : Honest (disk_of new) → is_broken new ≡ false → (before behind : words.World) → Takes bytes before behind → HaveSameTexts before behind → AreLentOf table_rules before tables
         → Carries table_rules old (state (disk_of old)) before → Carries table_rules new (state (disk_of new)) (world_behind result before behind)
     pub renews : is_broken new ≡ false → ticks_left old ≡ 1 → ticks_left new ≡ 0 → Honest (disk_of new) → (before behind : words.World) → Takes bytes before behind → HaveSameTexts before behind
@@ -211,8 +213,8 @@ module _ {D : Type 0} (Honest Works : D → Type 0) (state : D → DiskState) (p
 
   -- what a checkpoint does
   pub record Made (old : Logs) (result : Kept) (new : Logs) : Type 0 where
-    pub stops : Honest (disk_of new) → (world : words.World) → AreLentOf table_rules world tables → Carries table_rules old (state (disk_of old)) world
-        → LeavesKept table_files (past (disk_of old)) (state (disk_of old)) (past (disk_of new)) (state (disk_of new)) world
+    pub stops : Honest (disk_of new) → (world : words.World) → AreLentOf table_rules world tables → (carries : Carries table_rules old (state (disk_of old)) world)
+        → LeavesKept table_files (IsRootWithin old (tables_due old.base tables).snapshots carries.carried.layout carries.carried.holding) (past (disk_of old)) (state (disk_of old)) (past (disk_of new)) (state (disk_of new)) world
     pub carries : Honest (disk_of new) → is_broken new ≡ false → (world : words.World) → AreLentOf table_rules world tables
         → Carries table_rules old (state (disk_of old)) world → Carries table_rules new (state (disk_of new)) world
     pub names : OnOk result (Honest (disk_of new) → (world : words.World) → AreLentOf table_rules world tables → (kit : Kit) → KeepsNames kit state old world new world)
@@ -242,8 +244,47 @@ module _ {D : Type 0} (Honest Works : D → Type 0) (state : D → DiskState) (p
   abbrev pub Done : Logs → Kept → Logs → Type 0
   Done old result new = Keeping Honest Works state past faults writes syncs old tables bytes result new
 
-  kept_now : (log : Logs) (before behind : words.World) → Carries table_rules log (state (disk_of log)) before
-      → LeavesEither table_files (past (disk_of log)) (state (disk_of log)) (past (disk_of log)) (state (disk_of log)) before behind
+  -- a stop leaves what was kept, or what is kept behind the record
+  abbrev LeavesKeeping : Logs → Logs → words.World → words.World → Type 0
+  LeavesKeeping old new before behind =
+      LeavesOnly (past (disk_of old)) (state (disk_of old)) (past (disk_of new)) (state (disk_of new)) (λ image. Keeps table_files image before ⊎ Keeps table_files image behind)
+
+  -- with a root that names what its tables are to have
+  abbrev LeavesNamed : Kit → Logs → Logs → words.World → words.World → Type 0
+  LeavesNamed kit old new before behind =
+      LeavesEither table_files (IsNamed kit) (past (disk_of old)) (state (disk_of old)) (past (disk_of new)) (state (disk_of new)) before behind
+
+  tried_kept : (old : Logs) (result : Kept) (new : Logs) → Tried old result new → Honest (disk_of new) → (before behind : words.World) → Takes bytes before behind → AreLentOf table_rules before tables
+      → Carries table_rules old (state (disk_of old)) before → LeavesKeeping old new before behind
+  tried_kept old result new t h before behind takes lent carries =
+      either_kept table_files before behind (IsRootAt (ticks_left old) carries.carried.layout carries.carried.holding) (t.stops h before behind takes (same_texts bytes before behind takes) lent carries)
+
+  tried_named : (old : Logs) (result : Kept) (new : Logs) → Tried old result new → Honest (disk_of new) → (kit : Kit) (before behind : words.World) → Takes bytes before behind → AreLentOf table_rules before tables
+      → (ticks_left old ≡ 0 → AreTheirSnapshots kit before tables.snapshots) → NamesRoots kit old (state (disk_of old)) before → LeavesNamed kit old new before behind
+  tried_named old result new t h kit before behind takes lent named roots =
+      let carried = roots.names.carries.carried in
+      either_under table_files before behind (IsRootAt (ticks_left old) carried.layout carried.holding) (IsNamed kit)
+      (λ layout is. named_within kit state old new before before tables named roots layout (within_step layout is))
+      (t.stops h before behind takes (same_texts bytes before behind takes) lent roots.names.carries)
+
+  made_kept : (old : Logs) (result : Kept) (new : Logs) → Made old result new → Honest (disk_of new) → (before behind : words.World) → AreLentOf table_rules before tables
+      → Carries table_rules old (state (disk_of old)) before → LeavesKeeping old new before behind
+  made_kept old result new m h before behind lent carries =
+      weaker (m.stops h before lent carries) (λ image. Keeps table_files image before ⊎ Keeps table_files image behind) (λ image left. inl (record { layout = left.layout; kept = left.kept }))
+
+  made_named : (old : Logs) (result : Kept) (new : Logs) → Made old result new → Honest (disk_of new) → (kit : Kit) (before behind : words.World) → AreLentOf table_rules before tables
+      → AreTheirSnapshots kit before tables.snapshots → NamesRoots kit old (state (disk_of old)) before → LeavesNamed kit old new before behind
+  made_named old result new m h kit before behind lent named roots =
+      weaker (m.stops h before lent roots.names.carries) (λ image. KeepsUnder table_files (IsNamed kit) image before ⊎ KeepsUnder table_files (IsNamed kit) image behind)
+      (λ image left. inl (record { layout = left.layout; kept = left.kept; is_root = named_within kit state old new before before tables (λ rests. named) roots left.layout left.is_root }))
+
+  named_now : (log : Logs) (kit : Kit) (before behind : words.World) → NamesRoots kit log (state (disk_of log)) before → LeavesNamed kit log log before behind
+  named_now log kit before behind roots =
+      let carried = roots.names.carries.carried in
+      started (past (disk_of log)) (state (disk_of log)) (λ image. KeepsUnder table_files (IsNamed kit) image before ⊎ KeepsUnder table_files (IsNamed kit) image behind)
+      (λ image is. inl (record { layout = carried.layout; kept = carried.between.each image is; is_root = roots.taken }))
+
+  kept_now : (log : Logs) (before behind : words.World) → Carries table_rules log (state (disk_of log)) before → LeavesKeeping log log before behind
   kept_now log before behind carries =
       started (past (disk_of log)) (state (disk_of log)) (λ image. Keeps table_files image before ⊎ Keeps table_files image behind)
       (λ image is. inl (carried_kept table_files log.writer.file log.writer.checkpoint (state (disk_of log)) before carries.carried image is))
@@ -253,8 +294,10 @@ module _ {D : Type 0} (Honest Works : D → Type 0) (state : D → DiskState) (p
   none_made log whole left rests =
       record {
         stops = λ h world lent carries.
-            started (past (disk_of log)) (state (disk_of log)) (λ image. Keeps table_files image world)
-            (carried_kept table_files log.writer.file log.writer.checkpoint (state (disk_of log)) world carries.carried);
+            let carried = carries.carried in
+            let IsRoot : Layout table_files → Type 0 = IsRootWithin log (tables_due log.base tables).snapshots carried.layout carried.holding in
+            started (past (disk_of log)) (state (disk_of log)) (λ image. KeepsUnder table_files IsRoot image world)
+            (λ image is. record { layout = carried.layout; kept = carried.between.each image is; is_root = inl (still_root carried.layout) });
         carries = λ h still world lent carries. carries;
         names = λ h world lent kit. names_still kit state log world;
         number = refl;
@@ -291,6 +334,7 @@ module _ {D : Type 0} (Honest Works : D → Type 0) (state : D → DiskState) (p
         carries = λ h still before behind takes lent carries. carries;
         renews = λ still one none h before behind takes carries. absurd (omega (arith, one, none));
         names = λ h still kit before behind takes lent named. names_still kit state log before;
+        names_stops = λ h kit before behind takes lent named roots. named_now log kit before behind roots;
         renews_names = λ h still one none kit before behind takes lent names. absurd (omega (arith, one, none));
         number = refl;
         again = (λ is. absurd (cc is), λ broken. let both : true ≡ false = sym broken ∙ whole in absurd (cc both));
@@ -323,6 +367,7 @@ module _ {D : Type 0} (Honest Works : D → Type 0) (state : D → DiskState) (p
         carries = λ h still before behind takes lent carries. carries;
         renews = λ still one none h before behind takes carries. absurd (omega (arith, one, none));
         names = λ h still kit before behind takes lent named. names_still kit state log before;
+        names_stops = λ h kit before behind takes lent named roots. named_now log kit before behind roots;
         renews_names = λ h still one none kit before behind takes lent names. absurd (omega (arith, one, none));
         number = refl;
         again = (λ is. broken, λ was. refl);
@@ -363,12 +408,13 @@ module _ {D : Type 0} (Honest Works : D → Type 0) (state : D → DiskState) (p
   kept_once old new result room t =
       record {
         honest = t.honest;
-        stops = λ h before behind takes lent carries. t.stops h before behind takes (same_texts bytes before behind takes) lent carries;
+        stops = tried_kept old result new t;
         carries = λ h whole before behind takes lent carries. t.carries h whole before behind takes (same_texts bytes before behind takes) lent carries;
         renews = λ whole one none h before behind takes carries. t.renews whole one none h before behind takes (same_texts bytes before behind takes) carries;
         names = λ h whole kit before behind takes lent named.
             keeps_names kit state old new before (world_behind result before behind) tables (t.roots whole h before behind takes (same_texts bytes before behind takes) lent)
             (λ rests. named (inl rests));
+        names_stops = λ h kit before behind takes lent named roots. tried_named old result new t h kit before behind takes lent (λ rests. named (inl rests)) roots;
         renews_names = λ h whole one none kit before behind takes lent names.
             renews_names kit state old new before (world_behind result before behind) tables (t.roots whole h before behind takes (same_texts bytes before behind takes) lent) one none names;
         number = t.number;
@@ -443,11 +489,15 @@ module _ {D : Type 0} (Honest Works : D → Type 0) (state : D → DiskState) (p
         record {
           honest = λ h. t.honest (m.honest h);
           stops = λ h before behind takes lent carries.
-              joins (t.stops (m.honest h) before behind takes (same_texts bytes before behind takes) lent carries)
-              (weaker (m.stops h before lent (carried (m.honest h) before behind takes lent carries)) (λ image. Keeps table_files image before ⊎ Keeps table_files image behind) (λ image keeps. inl keeps));
+              joins (tried_kept old (Err F.HalfFull) mid t (m.honest h) before behind takes lent carries)
+              (made_kept mid (Err fault) new m h before behind lent (carried (m.honest h) before behind takes lent carries));
           carries = λ h whole before behind takes lent carries. m.carries h whole before lent (carried (m.honest h) before behind takes lent carries);
           renews = λ whole one none h before behind takes carries. absurd (never_whole fault new some m whole);
           names = λ h whole kit before behind takes lent named. absurd (never_whole fault new some m whole);
+          names_stops = λ h kit before behind takes lent named roots.
+              let is_named = named (inr (inl (t.full_half refl))) in
+              joins (tried_named old (Err F.HalfFull) mid t (m.honest h) kit before behind takes lent (λ rests. is_named) roots)
+              (made_named mid (Err fault) new m h kit before behind lent is_named ((names_before (m.honest h) kit before behind takes lent is_named).roots roots));
           renews_names = λ h whole one none kit before behind takes lent names. absurd (never_whole fault new some m whole);
           number = number_same fault (next_number old) (next_number new) (m.number ∙ t.number);
           again = (λ is. absurd (same_fault is), λ broken. never_again broken);
@@ -479,15 +529,13 @@ module _ {D : Type 0} (Honest Works : D → Type 0) (state : D → DiskState) (p
 
     module _ (made new : Logs) (m : Made mid (Ok tt) made) where
       stops_by : (result : Kept) → Tried made result new → Honest (disk_of new) → (before behind : words.World) → Takes bytes before behind → AreLentOf table_rules before tables
-          → Carries table_rules old (state (disk_of old)) before
-          → LeavesEither table_files (past (disk_of old)) (state (disk_of old)) (past (disk_of new)) (state (disk_of new)) before behind
+          → Carries table_rules old (state (disk_of old)) before → LeavesKeeping old new before behind
       stops_by result again h before behind takes lent carries =
           let then = again.honest h in
           let there = carried (m.honest then) before behind takes lent carries in
           joins
-          (joins (t.stops (m.honest then) before behind takes (same_texts bytes before behind takes) lent carries)
-          (weaker (m.stops then before lent there) (λ image. Keeps table_files image before ⊎ Keeps table_files image behind) (λ image keeps. inl keeps)))
-          (again.stops h before behind takes (same_texts bytes before behind takes) lent (m.carries then m.broken before lent there))
+          (joins (tried_kept old (Err F.HalfFull) mid t (m.honest then) before behind takes lent carries) (made_kept mid (Ok tt) made m then before behind lent there))
+          (tried_kept made result new again h before behind takes lent (m.carries then m.broken before lent there))
 
       carries_by : (result : Kept) → Tried made result new → Honest (disk_of new) → is_broken new ≡ false → (before behind : words.World) → Takes bytes before behind → AreLentOf table_rules before tables
           → Carries table_rules old (state (disk_of old)) before → Carries table_rules new (state (disk_of new)) (world_behind result before behind)
@@ -506,6 +554,16 @@ module _ {D : Type 0} (Honest Works : D → Type 0) (state : D → DiskState) (p
           let second = keeps_names kit state made new before (world_behind result before behind) tables
           (again.roots whole h before behind takes (same_texts bytes before behind takes) lent) (λ rests. is_named) in
           names_on kit state old made new before before (world_behind result before behind) ended second
+
+      names_stops_by : (result : Kept) → Tried made result new → Honest (disk_of new) → (kit : Kit) (before behind : words.World) → Takes bytes before behind → AreLentOf table_rules before tables
+          → ((ticks_left old ≡ 0) ⊎ IsFull old bytes → AreTheirSnapshots kit before tables.snapshots) → NamesRoots kit old (state (disk_of old)) before → LeavesNamed kit old new before behind
+      names_stops_by result again h kit before behind takes lent named roots =
+          let then = again.honest h in
+          let is_named = named (inr (inl (t.full_half refl))) in
+          let first = (names_before (m.honest then) kit before behind takes lent is_named).roots roots in
+          joins
+          (joins (tried_named old (Err F.HalfFull) mid t (m.honest then) kit before behind takes lent (λ rests. is_named) roots) (made_named mid (Ok tt) made m then kit before behind lent is_named first))
+          (tried_named made result new again h kit before behind takes lent (λ rests. is_named) ((m.names then before lent kit).roots first))
 
       grows_by : (result : Kept) → Tried made result new → Honest (disk_of new) → (before behind : words.World) → Takes bytes before behind → AreLentOf table_rules before tables
           → Carries table_rules old (state (disk_of old)) before → GrowsInAll state old new
@@ -554,6 +612,7 @@ module _ {D : Type 0} (Honest Works : D → Type 0) (state : D → DiskState) (p
             carries = carries_by (Ok tt) again;
             renews = λ whole one none h before behind takes carries. let some = begins_another again in absurd (omega (arith, none, some));
             names = names_by (Ok tt) again;
+            names_stops = names_stops_by (Ok tt) again;
             renews_names = λ h whole one none kit before behind takes lent names. let some = begins_another again in absurd (omega (arith, none, some));
             number = subst (λ (n : ℕ). next_number new ≡ n + 1) same_number again.number;
             again = (λ is. absurd (cc is), λ broken. never_again broken);
@@ -606,6 +665,7 @@ module _ {D : Type 0} (Honest Works : D → Type 0) (state : D → DiskState) (p
             carries = carries_by (Err fault) again;
             renews = renews_still fault again;
             names = names_by (Err fault) again;
+            names_stops = names_stops_by (Err fault) again;
             renews_names = renews_names_still fault again;
             number = subst (λ (n : ℕ). NumberBehind {T = Unit {0}} (Err (told_of fault)) n (next_number new)) same_number so.4;
             again = (λ is. absurd (so.0 (let same : told_of fault ≡ F.OpenAgain = cc is in same)), λ broken. never_again broken);

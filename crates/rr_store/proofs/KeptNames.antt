@@ -6,13 +6,14 @@ use Rattle.rr_checkpoint.specs.declared.plan.transcript.Transcript.{Transcript}
 use Rattle.rr_checkpoint.proofs.Writers.{base_is_carried}
 use Rattle.rr_disk.specs.Disk.{DiskState}
 use Rattle.rr_images.specs.Holding.{HeldChain, Holding, texts_of}
+use Rattle.rr_images.specs.Layout.{Layout}
 use Rattle.rr_kit.specs.declared.kit.Kit.{Kit}
 use Rattle.rr_log.specs.declared.log.Log.{Log}
 use Rattle.rr_log.specs.Calls.{tables_due}
 use Rattle.rr_log.specs.Carrying.{Carries, HoldsWorld, IsBase}
 use Rattle.rr_log.specs.Lent.{Lent, lent_in}
 use Rattle.rr_log.specs.Log.{HasNoneBegun, disk_of, place_of, root_number, ticks_left}
-use Rattle.rr_log.specs.Roots.{KeepsRoots, TakesRoot}
+use Rattle.rr_log.specs.Roots.{IsRootWithin, KeepsRoots, TakesRoot}
 use Rattle.rr_pages.specs.declared.root.Root.{Root}
 use Rattle.rr_reading.specs.declared.dir.version.TheConstants.{NEWEST}
 use Rattle.rr_reading.specs.declared.dir.version.Version.{Version}
@@ -25,7 +26,7 @@ use Rattle.rr_reading.proofs.DirLemmas.TableLemmas.{one_directory}
 use Rattle.rr_tables.specs.declared.records.rules.TableRules.{TableRules}
 use Rattle.rr_tables.specs.Records.Taking.{table_files, table_rules}
 use Rattle.rr_store.specs.Replayed.{AreTheirCounts, counts_at}
-use Rattle.rr_store.specs.NamedRoots.{AreTheirSnapshots, HoldsNamed, KeepsNames, NamesBase, NamesComing, NamesRoots}
+use Rattle.rr_store.specs.NamedRoots.{AreTheirSnapshots, HoldsNamed, IsNamed, KeepsNames, NamesBase, NamesComing, NamesRoots}
 
 -- each version is the newest
 pub one_form : (version : Version) → version ≡ NEWEST
@@ -103,6 +104,25 @@ module _ {D : Type 0} (kit : Kit) (state : D → DiskState) where
         begins_named : (carries : Before) → ticks_left old ≡ 0 → NamesBase kit old.base carries.carried.layout.middle → (holding : Holding)
             → HoldsWorld carries.carried.layout.middle (tables_due old.base lent).snapshots holding → HoldsNamed kit holding carries.carried.layout.middle
         begins_named carries rests found holding holds = begins_at carries rests found holding holds (place_of old).begun refl (carries.base rests)
+
+        -- and so is any root that is taken within a call
+        pub named_within : (roots : NamesRoots kit old (state (disk_of old)) before) → (then : Layout table_files)
+            → IsRootWithin old (tables_due old.base lent).snapshots roots.names.carries.carried.layout roots.names.carries.carried.holding then → IsNamed kit then
+        named_within roots then (inl same) =
+            let layout = roots.names.carries.carried.layout in
+            holds_same kit layout.holding then.holding layout.base then.base same.holding same.base roots.taken
+        named_within roots then (inr takes) =
+            let carries = roots.names.carries in
+            elim (cases_lt 0 (ticks_left old)) [
+              | inl under_way ↦
+                  let coming = takes.under_way under_way in
+                  holds_same kit carries.carried.holding then.holding carries.carried.layout.middle then.base coming.holding coming.base (roots.names.coming under_way)
+              | inr at_rest ↦
+                  let rests : ticks_left old ≡ 0 = omega (arith, at_rest) in
+                  let whole = takes.whole rests in
+                  holds_same kit then.holding then.holding carries.carried.layout.middle then.base refl whole.0
+                  (begins_named carries rests (roots.names.found rests) then.holding whole.1)
+            ]
 
       -- by steps of a checkpoint and records
       module _ (keeps : (carries : Before) → (then : After)

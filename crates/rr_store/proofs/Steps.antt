@@ -1,9 +1,12 @@
 -- What steps of a checkpoint do, from what the open file does.
 use Rattle.std.proofs.Common.{◌≡◌, ◌↔◌, ℕ, Bool, true, false, List, [], ◌∷◌, ◌++◌, Result, Ok, Err, IfErr, IsErrOf, IsTrue, inl, inr, refl, sym, ap, subst, ◌∙◌, arith}
-use Rattle.rr_checkpoint.specs.Calls.{LeavesKept}
+use Rattle.rr_checkpoint.specs.Calls.{IsRootAt, LeavesKept}
+use Rattle.rr_checkpoint.proofs.Writers.{left_kept, left_under}
 use Rattle.rr_disk.specs.Disk.{DiskState}
 use Rattle.rr_disk.specs.Moments.{EachImage, EachImageOf, LeavesOnly}
-use Rattle.rr_disk.proofs.MomentLemmas.{EachImageOf-weaker}
+use Rattle.rr_disk.proofs.MomentLemmas.{EachImageOf-weaker, weaker}
+use Rattle.rr_images.specs.Holding.{Holding}
+use Rattle.rr_images.specs.Layout.{Layout}
 use Rattle.rr_kit.specs.declared.kit.Kit.{Kit}
 use Rattle.rr_kit.specs.Kits.{KitTexts, SpellsKit}
 use Rattle.rr_log.specs.declared.fault.Fault as log
@@ -14,7 +17,8 @@ use Rattle.rr_log.specs.Carrying as carrying
 use Rattle.rr_log.specs.Fault.{CountsFault, IsWant, ends_broken}
 use Rattle.rr_log.specs.Fault as log_fault
 use Rattle.rr_log.specs.Log as file
-use Rattle.rr_log.specs.Roots.{KeepsRoots, TakesRoot}
+use Rattle.rr_log.specs.Roots.{IsRootWithin, KeepsRoots, TakesRoot}
+use Rattle.rr_log.proofs.Roots.{within_step}
 use Rattle.rr_tables.specs.declared.records.rules.TableRules.{TableRules}
 use Rattle.rr_tables.specs.Records.Headline.{KeepsTables}
 use Rattle.rr_tables.specs.Records.Taking.{table_files, table_rules}
@@ -30,12 +34,12 @@ use Rattle.rr_store.specs.Allowing.{Between, TickAllows}
 use Rattle.rr_store.specs.Fault.{CountsEnd, OnDeviceFault, of_log}
 use Rattle.rr_store.specs.Files.{AreTablesOf, StandsFor}
 use Rattle.rr_store.specs.Holding.{Carries, disk_of, file_of, held_of, lent_of, ticks_left}
-use Rattle.rr_store.specs.Named.{KeepsNames, LendsNamed, NamesComing, NamesRoots}
+use Rattle.rr_store.specs.Named.{KeepsNames, LendsNamed, NamesComing, NamesRoots, NamesSnapshots}
 use Rattle.rr_store.specs.NamedRoots as roots
 use Rattle.rr_store.specs.Ticking.{RefusesStep, Steps, held_behind}
 use Rattle.rr_store.specs.World.{World}
-use Rattle.rr_store.proofs.KeptNames.{ends_names, keeps_names, renews_names, takes_names}
-use Rattle.rr_store.proofs.NamedRoots.{names_there, roots_there, store_named}
+use Rattle.rr_store.proofs.KeptNames.{ends_names, keeps_names, named_within, renews_names, takes_names}
+use Rattle.rr_store.proofs.NamedRoots.{names_there, root_named, roots_there, store_named}
 use Rattle.rr_store.proofs.Standing.{carried_keeps, carried_lent}
 use Rattle.rr_store.proofs.Worlds.{kept_stand}
 
@@ -59,6 +63,13 @@ device_of T L.HalfFull so given = tt
 device_of T L.FileFull so given = tt
 device_of T L.OpenAgain so given = tt
 device_of T L.OutOfMemory so given = tt
+
+-- within a step the root is the one from before it, or the one that it takes
+pub stops_within : {D : Type 0} {past_old : List DiskState} {now : DiskState} {past_new : List DiskState} {new : DiskState} (old : Log D TableRules) (tables : Lent) (before : Layout table_files) (coming : Holding) (world : words.World)
+    → LeavesKept table_files (IsRootAt (file.ticks_left old) before coming) past_old now past_new new world
+    → LeavesKept table_files (IsRootWithin old (calls.tables_due old.base tables).snapshots before coming) past_old now past_new new world
+stops_within old tables before coming world stops =
+    left_under table_files world (IsRootAt (file.ticks_left old) before coming) (IsRootWithin old (calls.tables_due old.base tables).snapshots before coming) (λ layout is. within_step layout is) stops
 
 module _ {D : Type 0} (Honest Works : D → Type 0) (state : D → DiskState) (past : D → List DiskState) (faults : D → ℕ) where
   -- what becomes of its roots
@@ -96,8 +107,8 @@ module _ {D : Type 0} (Honest Works : D → Type 0) (state : D → DiskState) (p
 
   -- what the open file does
   pub record Stepped {T : Type 0} (old : Log D TableRules) (tables : Lent) (result : Result T log.Fault) (new : Log D TableRules) : Type 0 where
-    pub stops : Honest (file.disk_of new) → (world : words.World) → AreLentOf table_rules world tables → carrying.Carries table_rules old (state (file.disk_of old)) world
-        → LeavesKept table_files (past (file.disk_of old)) (state (file.disk_of old)) (past (file.disk_of new)) (state (file.disk_of new)) world
+    pub stops : Honest (file.disk_of new) → (world : words.World) → AreLentOf table_rules world tables → (carries : carrying.Carries table_rules old (state (file.disk_of old)) world)
+        → LeavesKept table_files (IsRootWithin old (calls.tables_due old.base tables).snapshots carries.carried.layout carries.carried.holding) (past (file.disk_of old)) (state (file.disk_of old)) (past (file.disk_of new)) (state (file.disk_of new)) world
     pub carries : Honest (file.disk_of new) → file.is_broken new ≡ false → (world : words.World) → AreLentOf table_rules world tables
         → carrying.Carries table_rules old (state (file.disk_of old)) world → carrying.Carries table_rules new (state (file.disk_of new)) world
     pub named : Named old tables new
@@ -126,11 +137,19 @@ module _ {D : Type 0} (Honest Works : D → Type 0) (state : D → DiskState) (p
     held_if b is = λ i. record { kit = (same i).kit; tables = world_of (same i); broken = is i }
 
     module _ {T : Type 0} (result : Result T log.Fault) (s : Stepped (file_of old) (lent_of old) result (file_of new)) where
+      keeps_by : Honest (disk_of new) → (texts : KitTexts) → Carries state old texts
+          → LeavesOnly (past (disk_of old)) (state (disk_of old)) (past (disk_of new)) (state (disk_of new)) (KeepsTables texts tables_now)
+      keeps_by h texts carries =
+          let log = file_of old in
+          let carried = carries.file.carried in
+          left_kept table_files (in_words texts tables_now) (IsRootWithin log (calls.tables_due log.base (lent_of old)).snapshots carried.layout carried.holding)
+          (s.stops h (in_words texts tables_now) (carried_lent state old texts carries) carries.file)
+
       allowed_by : Honest (disk_of new) → (texts : KitTexts) → Carries state old texts
           → Between (past (disk_of old)) (state (disk_of old)) (past (disk_of new)) (state (disk_of new))
           (λ moments. TickAllows texts tables_now (state (disk_of old)) moments (state (disk_of new)))
       allowed_by h texts carries =
-          let stops = s.stops h (in_words texts tables_now) (carried_lent state old texts carries) carries.file in
+          let stops = keeps_by h texts carries in
           let stands = kept_stand texts (held_of old).kit tables_now carries.right carries.tables_of_kit in
           let each = EachImageOf-weaker stops.since (KeepsTables texts tables_now) (λ image. StandsFor image texts tables_now) stands stops.each in
           record {
@@ -143,10 +162,6 @@ module _ {D : Type 0} (Honest Works : D → Type 0) (state : D → DiskState) (p
                   stops.goes_on (carried_keeps state old texts carries) each;
             };
           }
-
-      keeps_by : Honest (disk_of new) → (texts : KitTexts) → Carries state old texts
-          → LeavesOnly (past (disk_of old)) (state (disk_of old)) (past (disk_of new)) (state (disk_of new)) (KeepsTables texts tables_now)
-      keeps_by h texts carries = s.stops h (in_words texts tables_now) (carried_lent state old texts carries) carries.file
 
       carries_by : Honest (disk_of new) → (held_of new).broken ≡ false → (texts : KitTexts) → Carries state old texts → Carries state new texts
       carries_by h whole texts carries = record {
@@ -164,6 +179,15 @@ module _ {D : Type 0} (Honest Works : D → Type 0) (state : D → DiskState) (p
           (s.named.keeps whole h (in_words texts tables_now) (carried_lent state old texts carries) (held_of old).kit
           (λ rests. store_named state old texts carries (may rests)))
 
+      names_stops_by : Honest (disk_of new) → (texts : KitTexts) → Carries state old texts → (ticks_left old ≡ 0 → LendsNamed old) → NamesRoots state old texts
+          → LeavesOnly (past (disk_of old)) (state (disk_of old)) (past (disk_of new)) (state (disk_of new)) (NamesSnapshots (held_of old).kit)
+      names_stops_by h texts carries may names =
+          let kit = (held_of old).kit in
+          let world = in_words texts tables_now in
+          weaker (s.stops h world (carried_lent state old texts carries) names.names.carries) (NamesSnapshots kit) (λ image left.
+          root_named image kit left.layout world left.kept
+          (named_within kit state (file_of old) (file_of new) world world (lent_of old) (λ rests. store_named state old texts carries (may rests)) names left.layout left.is_root))
+
       renews_by : Honest (disk_of new) → (held_of new).broken ≡ false → ticks_left old ≡ 1 → ticks_left new ≡ 0 → (texts : KitTexts) → Carries state old texts
           → NamesComing state old texts → NamesRoots state new texts
       renews_by h whole one none texts carries names =
@@ -178,6 +202,7 @@ module _ {D : Type 0} (Honest Works : D → Type 0) (state : D → DiskState) (p
           keeps = keeps_by (Ok value) s;
           carries = carries_by (Ok value) s;
           names = names_by (Ok value) s;
+          names_stops = names_stops_by (Ok value) s;
           renews_names = renews_by (Ok value) s;
           held = held_if (file.is_broken (file_of old)) (s.broken ∙ sym (not_true (file.is_broken (file_of old)) (λ broken. never (s.again.1 broken))));
           played = λ played. subst ArePlayed (sym same) played;
@@ -207,6 +232,7 @@ module _ {D : Type 0} (Honest Works : D → Type 0) (state : D → DiskState) (p
             keeps = keeps_by (Err fault) s;
             carries = carries_by (Err fault) s;
             names = names_by (Err fault) s;
+            names_stops = names_stops_by (Err fault) s;
             renews_names = renews_by (Err fault) s;
             held = held;
             played = λ played. subst ArePlayed (sym same) played;

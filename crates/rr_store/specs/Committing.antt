@@ -22,7 +22,7 @@ use Rattle.rr_store.specs.Fault.{CountsEnd, OnDeviceFault}
 use Rattle.rr_store.specs.Held.{Takes}
 use Rattle.rr_store.specs.Holding.{Carries, GamesArePlayed, GamesHaveSnapshots, HasNoRoom, IsFull, IsFullFor, IsUnchanged, Rests, disk_of, file_of, held_of, lent_of, number_of_next, replayed_of, ticks_left}
 use Rattle.rr_store.specs.Keeping.{ComesOn, GrowsInAll, MakesAtMost, length_on}
-use Rattle.rr_store.specs.Named.{KeepsNames, LendsNamed, NamesComing, NamesRoots}
+use Rattle.rr_store.specs.Named.{KeepsNames, LendsNamed, NamesComing, NamesRoots, NamesSnapshots}
 use Rattle.rr_store.specs.World.{for_table, judgement_in}
 use Rattle.rr_reading.specs.Worlds.World as words
 
@@ -76,6 +76,10 @@ pub record Commits {D : Type 0} (Honest Works : D → Type 0) (state : D → Dis
       → ((ticks_left old ≡ 0) ⊎ IsFull old name request → LendsNamed old) → KeepsNames state old new texts
   pub renews_names : Honest (disk_of new) → (held_of new).broken ≡ false → ticks_left old ≡ 1 → ticks_left new ≡ 0 → (texts : KitTexts)
       → Carries state old texts → NamesComing state old texts → NamesRoots state new texts
+  -- and of such roots a stop at any moment leaves a file whose root is so, whether the call returns or not
+  pub names_stops : Honest (disk_of new) → (texts : KitTexts) → Carries state old texts
+      → ((ticks_left old ≡ 0) ⊎ IsFull old name request → LendsNamed old) → NamesRoots state old texts
+      → LeavesOnly (past (disk_of old)) (state (disk_of old)) (past (disk_of new)) (state (disk_of new)) (NamesSnapshots (held_of old).kit)
   -- the number of the next record
   pub number : NumberBehind result (number_of_next old) (number_of_next new)
   -- a refusal by the rules changes nothing; nor, where the tables were played, does want of memory, unless the request is

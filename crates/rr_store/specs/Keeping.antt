@@ -4,8 +4,9 @@ use Rattle.rr_checkpoint.specs.Calls.{LeavesEither}
 use Rattle.rr_checkpoint.specs.Checkpoint.{left_behind_first}
 use Rattle.rr_checkpoint.specs.Growing.{GrowsWhereFull}
 use Rattle.rr_disk.specs.Disk.{DiskState}
-use Rattle.rr_disk.specs.Moments.{EachImage}
+use Rattle.rr_disk.specs.Moments.{EachImage, LeavesOnly}
 use Rattle.rr_images.specs.Calls.{TakesNewer}
+use Rattle.rr_images.specs.Layout.{Keeps}
 use Rattle.rr_kit.specs.declared.kit.Kit.{Kit}
 use Rattle.rr_log.specs.declared.fault.Fault.{Fault}
 use Rattle.rr_log.specs.declared.fault.Fault.TheVariants as F
@@ -20,7 +21,7 @@ use Rattle.rr_tables.specs.declared.records.rules.TableRules.{TableRules}
 use Rattle.rr_tables.specs.Records.Taking.{Takes, table_files, table_rules}
 use Rattle.rr_log.specs.Lent.{AreLentOf, Lent}
 use Rattle.rr_reading.specs.Worlds.World as words
-use Rattle.rr_store.specs.NamedRoots.{AreTheirSnapshots, KeepsNames, NamesComing, NamesRoots}
+use Rattle.rr_store.specs.NamedRoots.{AreTheirSnapshots, IsNamed, KeepsNames, NamesComing, NamesRoots}
 
 -- the half in use has no room for a record of these bytes, or the record's number would be past the last
 abbrev pub IsFull : {D R : Type 0} → Log D R → List ℕ → Type 0
@@ -78,7 +79,8 @@ pub record Keeping {D : Type 0} (Honest Works : D → Type 0) (state : D → Dis
   -- keeps this world, or the one to which the record leads; and behind it the file carries the one that the answer tells
   pub stops : Honest (disk_of new) → (before behind : words.World) → Takes bytes before behind → AreLentOf table_rules before lent
       → Carries table_rules old (state (disk_of old)) before
-      → LeavesEither table_files (past (disk_of old)) (state (disk_of old)) (past (disk_of new)) (state (disk_of new)) before behind
+      → LeavesOnly (past (disk_of old)) (state (disk_of old)) (past (disk_of new)) (state (disk_of new))
+      (λ image. Keeps table_files image before ⊎ Keeps table_files image behind)
   pub carries : Honest (disk_of new) → is_broken new ≡ false → (before behind : words.World) → Takes bytes before behind → AreLentOf table_rules before lent
       → Carries table_rules old (state (disk_of old)) before → Carries table_rules new (state (disk_of new)) (world_behind result before behind)
   -- behind the last step of a checkpoint, where no other is begun, each file that a stop may leave takes a newer root, whose
@@ -94,6 +96,10 @@ pub record Keeping {D : Type 0} (Honest Works : D → Type 0) (state : D → Dis
   pub renews_names : Honest (disk_of new) → is_broken new ≡ false → ticks_left old ≡ 1 → ticks_left new ≡ 0 → (kit : Kit) (before behind : words.World)
       → Takes bytes before behind → AreLentOf table_rules before lent
       → NamesComing kit old (state (disk_of old)) before → NamesRoots kit new (state (disk_of new)) (world_behind result before behind)
+  -- and of such roots a stop at any moment leaves a file with a root that is so, whether the call returns or not
+  pub names_stops : Honest (disk_of new) → (kit : Kit) (before behind : words.World) → Takes bytes before behind → AreLentOf table_rules before lent
+      → ((ticks_left old ≡ 0) ⊎ IsFull old bytes → AreTheirSnapshots kit before lent.snapshots) → NamesRoots kit old (state (disk_of old)) before
+      → LeavesEither table_files (IsNamed kit) (past (disk_of old)) (state (disk_of old)) (past (disk_of new)) (state (disk_of new)) before behind
   -- the next record's number is one more behind a record that was kept; a broken log refuses and stays as it is, and a log is
   -- broken exactly where the device failed
   pub number : NumberBehind result (next_number old) (next_number new)

@@ -3,6 +3,7 @@ use Rattle.std.specs.Prelude.{◌≡◌, ◌<◌, List, Option, Some, length}
 use Rattle.rr_checkpoint.specs.declared.plan.transcript.Transcript.{Transcript}
 use Rattle.rr_disk.specs.Disk.{DiskState}
 use Rattle.rr_images.specs.Holding.{HeldChain, Holding}
+use Rattle.rr_images.specs.Layout.{Layout}
 use Rattle.rr_kit.specs.declared.kit.Kit.{Kit}
 use Rattle.rr_log.specs.declared.log.Log.{Log}
 use Rattle.rr_log.specs.Carrying.{Carries}
@@ -14,7 +15,7 @@ use Rattle.rr_reading.specs.Worlds.Spelling.{snapshot_entries}
 use Rattle.rr_reading.specs.Worlds.World.{Snapshot}
 use Rattle.rr_reading.specs.Worlds.World as words
 use Rattle.rr_tables.specs.declared.records.rules.TableRules.{TableRules}
-use Rattle.rr_tables.specs.Records.Taking.{table_rules}
+use Rattle.rr_tables.specs.Records.Taking.{table_files, table_rules}
 use Rattle.rr_tables.specs.Records.Words.{IsInWords}
 use Rattle.rr_store.specs.Replayed.{AreTheirCounts, counts_at}
 use Rattle.rr_store.specs.World.{World}
@@ -30,6 +31,10 @@ abbrev pub HoldsNamed : Kit → Holding → words.World → Type 0
 HoldsNamed kit holding world =
     (version : Version) (directory : Directory) (base : World) → Spells version holding.directory.text directory → IsInWords base world
     → AreTheirCounts kit (counts_at directory.snapshots) 0 base
+
+-- the root of a layout names just those that the tables of the world which it spells are to have
+abbrev pub IsNamed : Kit → Layout table_files → Type 0
+IsNamed kit layout = HoldsNamed kit layout.holding layout.base
 
 -- where tables are kept for a checkpoint that an opening found begun, what is written of them names just those too
 abbrev pub NamesBase : Kit → Option Transcript → words.World → Type 0

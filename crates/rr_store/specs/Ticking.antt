@@ -12,7 +12,7 @@ use Rattle.rr_store.specs.Allowing.{Between, TickAllows}
 use Rattle.rr_store.specs.Fault.{CountsEnd, OnDeviceFault}
 use Rattle.rr_store.specs.Held.{Held, with_failure}
 use Rattle.rr_store.specs.Holding.{Carries, GamesArePlayed, GamesHaveSnapshots, IsUnchanged, disk_of, file_of, held_of, lent_of, number_of_next, ticks_left}
-use Rattle.rr_store.specs.Named.{KeepsNames, LendsNamed, NamesComing, NamesRoots}
+use Rattle.rr_store.specs.Named.{KeepsNames, LendsNamed, NamesComing, NamesRoots, NamesSnapshots}
 
 -- what is held behind a call that takes no request: the same, unless the device failed
 abbrev pub held_behind : {T : Type 0} → Result T Fault → Held → Held
@@ -39,7 +39,7 @@ RefusesStep old new _ = ⊥
 -- record; a broken store refuses, and no other; and a device fault is told exactly where the disk counts one. An honest disk
 -- that works, and carries what is held, is never told to have failed. Roots that have just the snapshots that their tables are
 -- to have stay so, and so does the one that is coming, if what is lent to a checkpoint that begins is so; behind the last
--- step of one the root is so that was coming.
+-- step of one the root is so that was coming; and of such roots a stop at any moment leaves a file whose root is so.
 pub record Steps {D T : Type 0} (Honest Works : D → Type 0) (state : D → DiskState) (past : D → List DiskState) (faults : D → ℕ)
     (old : Store D) (result : Result T Fault) (new : Store D) : Type 0 where
   pub honest : Honest (disk_of new) → Honest (disk_of old)
@@ -54,6 +54,9 @@ pub record Steps {D T : Type 0} (Honest Works : D → Type 0) (state : D → Dis
       → (ticks_left old ≡ 0 → LendsNamed old) → KeepsNames state old new texts
   pub renews_names : Honest (disk_of new) → (held_of new).broken ≡ false → ticks_left old ≡ 1 → ticks_left new ≡ 0 → (texts : KitTexts)
       → Carries state old texts → NamesComing state old texts → NamesRoots state new texts
+  pub names_stops : Honest (disk_of new) → (texts : KitTexts) → Carries state old texts → (ticks_left old ≡ 0 → LendsNamed old)
+      → NamesRoots state old texts
+      → LeavesOnly (past (disk_of old)) (state (disk_of old)) (past (disk_of new)) (state (disk_of new)) (NamesSnapshots (held_of old).kit)
   pub held : held_of new ≡ held_behind result (held_of old)
   pub played : GamesArePlayed old → GamesArePlayed new
   pub snapshots : GamesHaveSnapshots old → GamesHaveSnapshots new

@@ -1,16 +1,19 @@
--- Each opening of a file in whose history each call returned plays few commands.
-use Rattle.std.proofs.Common.{◌≡◌, ℕ, ◌≤◌, All, false, List, [], length, Result, Ok, Err, IfOk, sym, ap, subst, arith}
+-- Each opening of a file plays few commands, whatever stops there were in its history.
+use Rattle.std.proofs.Common.{◌≡◌, ℕ, ◌≤◌, All, false, List, [], ◌∷◌, ◌++◌, length, Some, inl, inr, Result, Ok, Err, IfOk, sym, ap, subst, arith}
 use Rattle.std.specs.Cmp.Lexicographic.{nat_list_eq_equiv}
 use Rattle.std.specs.Global.{Box}
 use Rattle.std.proofs.lemmas.List.Elements.{All-weaker}
 use Rattle.std.proofs.lemmas.Map.Views.{All-values_from_lookup}
 use Rattle.std.specs.Map.{values_of}
 use Rattle.rr_disk.specs.Disk.{DiskState, IsImage}
+use Rattle.rr_disk.specs.Moments.{EachImageOf, LeavesOnly}
+use Rattle.rr_disk.proofs.ImageLemmas.{each_synced}
 use Rattle.rr_game.specs.declared.game.Game.{Game}
 use Rattle.rr_game.specs.declared.history.table.Table.{Table}
 use Rattle.rr_game.specs.History.GameBytes.{bytes_of}
 use Rattle.rr_game.specs.History.Snapshots.{IsShown}
 use Rattle.rr_game.specs.History.Tables.{IsPlayed}
+use Rattle.rr_images.specs.Schedules.Schedule.{IsImageOfOne}
 use Rattle.rr_kit.specs.declared.kit.Kit.{Kit}
 use Rattle.rr_kit.specs.Kits.{KitTexts}
 use Rattle.rr_kit.proofs.OneKit.{one_kit}
@@ -18,22 +21,27 @@ use Rattle.rr_laws.specs.Sizes.{GamesAreShort}
 use Rattle.rr_log.proofs.FormattingLemmas.Moments.{new_keeps}
 use Rattle.rr_pages.specs.declared.root.TheConstants.{NEWEST_VERSION}
 use Rattle.rr_reading.specs.declared.dir.directory.TheConstants.{MOST_SNAPSHOT_BYTES}
-use Rattle.rr_tables.specs.Records.Headline.{KeepsTables}
+use Rattle.rr_tables.specs.Records.Headline.{KeepsTables, KeepsTablesOr}
 use Rattle.rr_tables.specs.Records.Taking.{table_files}
 use Rattle.rr_tables.specs.Records.Words.{in_words}
-use Rattle.rr_tables.specs.Records.World.{World}
+use Rattle.rr_tables.specs.Records.World.{TableRequest, World, for_table, world_after}
+use Rattle.rr_tables.proofs.RecordLemmas.PlayedLemmas.{played_after}
+use Rattle.rr_tables.proofs.RecordLemmas.WorldLemmas.{keep_after}
 use Rattle.rr_store.specs.declared.fault.Fault.{Fault}
 use Rattle.rr_store.specs.declared.opening.Refused as opening
 use Rattle.rr_store.specs.declared.store.Store.{Store}
-use Rattle.rr_store.specs.Events.{Opens}
+use Rattle.rr_store.specs.Events.{Opens, Passes, disk_behind}
 use Rattle.rr_store.specs.Files.{StandsFor}
 use Rattle.rr_store.specs.Holding.{Carries, GamesHaveSnapshots, disk_of, file_of, held_of, replayed_of}
 use Rattle.rr_store.specs.Named.{LendsNamed, NamedRootsPlayFew, NamesRoots, NamesSnapshots, NewFilesNameSnapshots, OpeningsPlayFew, PlaysFew, ShortSnapshotsAreLent, SnapshotsAreShort}
 use Rattle.rr_store.specs.Replayed.{ReplaysFile}
+use Rattle.rr_store.specs.Opening.{SyncsAtMost}
 use Rattle.rr_store.specs.Ticking.{Steps}
+use Rattle.rr_store.proofs.Events.{each_moment, same_moments}
+use Rattle.rr_store.proofs.Openings.{syncs_at_most}
 use Rattle.rr_store.proofs.Standing.{carried_now}
 use Rattle.rr_store.proofs.Worlds.{kept_stand}
-use Rattle.rr_world_laws.specs.FewPlays.{Behind, By_checkpoint, By_commit, By_tick, HistoriesBegin, HistoriesGoOn, History, KeepsNamed, KitsHaveShortSnapshots, New, No_call, OpensNamed, Returned}
+use Rattle.rr_world_laws.specs.FewPlays.{And_then, Behind, By_checkpoint, By_commit, By_tick, Call, HistoriesBegin, HistoriesEnd, HistoriesGoOn, HistoriesStay, History, KeepsNamed, KitsHaveShortSnapshots, New, No_call, OpensNamed, Returned, Within}
 
 -- ---- games are short
 
@@ -83,6 +91,58 @@ pub histories_go_on : {D : Type 0} (Honest Works : D → Type 0) (state : D → 
 histories_go_on Honest Works state past faults writes syncs stays texts disk opened last history opens named calls honest =
     Behind disk opened last (state (disk_of last)).content history opens named calls honest (stays (disk_of last) honest)
 
+-- a disk that is honest behind a call was so before it
+honest_of : {D : Type 0} (Honest Works : D → Type 0) (state : D → DiskState) (past : D → List DiskState) (faults writes syncs : D → ℕ) (old new : Store D)
+    → Call Honest Works state past faults writes syncs old new → Honest (disk_of new) → Honest (disk_of old)
+honest_of Honest Works state past faults writes syncs old new (By_commit before behind name stamp request result commits) honest = commits.honest honest
+honest_of Honest Works state past faults writes syncs old new (By_tick before behind result steps) honest = steps.honest honest
+honest_of Honest Works state past faults writes syncs old new (By_checkpoint before behind result steps) honest = steps.honest honest
+
+-- where no moment passed the state is as it was
+none_passed : (past_old past_new : List DiskState) (old new : DiskState) → new ∷ past_new ≡ old ∷ past_old → new ≡ old
+none_passed past_old past_new old new passes = cc
+
+pub histories_end : {D : Type 0} (Honest Works : D → Type 0) (state : D → DiskState) (past : D → List DiskState) (faults writes syncs : D → ℕ)
+    → ((disk : D) → Honest disk → IsImage (state disk) (state disk).content) → HistoriesEnd Honest Works state past faults writes syncs
+histories_end Honest Works state past faults writes syncs stays texts disk opened last new [] history opens named calls call honest passes =
+    let same = none_passed (past (disk_of last)) (past (disk_of new)) (state (disk_of last)) (state (disk_of new)) passes in
+    let before = honest_of Honest Works state past faults writes syncs last new call honest in
+    subst (λ (s : DiskState). History Honest Works state past faults writes syncs texts s.content) (sym same)
+    (Behind disk opened last (state (disk_of last)).content history opens named calls before (stays (disk_of last) before))
+histories_end Honest Works state past faults writes syncs stays texts disk opened last new (now ∷ moments) history opens named calls call honest passes =
+    let same : state (disk_of new) ≡ now = cc passes in
+    Within disk opened last new (now ∷ moments) (state (disk_of new)).content history opens named calls call honest passes
+    (inl (subst (λ (s : DiskState). IsImage s (state (disk_of new)).content) same (stays (disk_of new) honest)))
+
+-- what is so of each moment of a call is so of what a stop leaves at one of them
+at_moment : (moments : List DiskState) (P : List ℕ → Type 0) (image : List ℕ) → EachImageOf moments P → IsImageOfOne moments image → P image
+at_moment [] P image each none = absurd none
+at_moment (now ∷ moments) P image each (inl is) = each.0 image is
+at_moment (now ∷ moments) P image each (inr rest) = at_moment moments P image each.1 rest
+
+within : (past_old past_new : List DiskState) (old new : DiskState) (P : List ℕ → Type 0) → LeavesOnly past_old old past_new new P → (moments : List DiskState)
+    → new ∷ past_new ≡ moments ++ old ∷ past_old → (image : List ℕ) → IsImageOfOne moments image → P image
+within past_old past_new old new P leaves moments passes image of = at_moment moments P image (each_moment past_old past_new old new P leaves moments passes) of
+
+-- a sync leaves what a read gave
+synced : (old : DiskState) (moments : List DiskState) (P : List ℕ → Type 0) → P old.content → SyncsAtMost old moments → EachImageOf moments P
+synced old moments P here (inl none) = subst (λ (ms : List DiskState). EachImageOf ms P) (sym none) tt
+synced old moments P here (inr once) = subst (λ (ms : List DiskState). EachImageOf ms P) (sym once) (each_synced old P here, tt)
+
+pub histories_stay : {D : Type 0} (Honest Works : D → Type 0) (state : D → DiskState) (past : D → List DiskState) (faults writes syncs : D → ℕ)
+    → HistoriesStay Honest Works state past faults writes syncs
+histories_stay Honest Works state past faults writes syncs texts disk (Ok store) moments image history opens honest passes of =
+    let told = (opens.opened honest).1 in
+    let same = same_moments told.moments moments (past disk) (past (disk_of store)) (state disk) (state (disk_of store)) told.passed passes in
+    let Has : List ℕ → Type 0 = History Honest Works state past faults writes syncs texts in
+    at_moment moments Has image (subst (λ (ms : List DiskState). EachImageOf ms Has) same (synced (state disk) told.moments Has history (inr told.allowed.0))) of
+histories_stay Honest Works state past faults writes syncs texts disk (Err refused) moments image history opens honest passes of =
+    let told = opens.left honest in
+    let same = same_moments told.moments moments (past disk) (past refused.disk) (state disk) (state refused.disk) told.passed passes in
+    let Has : List ℕ → Type 0 = History Honest Works state past faults writes syncs texts in
+    at_moment moments Has image
+    (subst (λ (ms : List DiskState). EachImageOf ms Has) same (synced (state disk) told.moments Has history (syncs_at_most refused.fault (state disk) told.moments told.allowed.0))) of
+
 module _ {D : Type 0} (Honest Works : D → Type 0) (state : D → DiskState) (past : D → List DiskState) (faults writes syncs : D → ℕ)
     (short : KitsHaveShortSnapshots) (new_files : NewFilesNameSnapshots) (openings : OpeningsPlayFew) (images : NamedRootsPlayFew state)
     (lends : ShortSnapshotsAreLent state) (texts : KitTexts) where
@@ -98,13 +158,15 @@ module _ {D : Type 0} (Honest Works : D → Type 0) (state : D → DiskState) (p
     pub snapshots : GamesHaveSnapshots store
     pub roots : NamesRoots state store texts
 
+  abbrev Makes : Store D → Store D → Type 0
+  Makes = Call Honest Works state past faults writes syncs
+
+  honest_by : (old new : Store D) → Makes old new → Honest (disk_of new) → Honest (disk_of old)
+  honest_by = honest_of Honest Works state past faults writes syncs
+
   honest_before : (old new : Store D) → Calls old new → Honest (disk_of new) → Honest (disk_of old)
   honest_before old new (No_call store) honest = honest
-  honest_before old new (By_commit before between last name stamp request result commits whole rest) honest =
-      commits.honest (honest_before between last rest honest)
-  honest_before old new (By_tick before between last result steps whole rest) honest = steps.honest (honest_before between last rest honest)
-  honest_before old new (By_checkpoint before between last result steps whole rest) honest =
-      steps.honest (honest_before between last rest honest)
+  honest_before old new (And_then before between last call whole rest) honest = honest_by before between call (honest_before between last rest honest)
 
   lent : (store : Store D) → IsNamed store → LendsNamed store
   lent store is = lends texts store (short (held_of store).kit) is.carries is.snapshots
@@ -118,20 +180,20 @@ module _ {D : Type 0} (Honest Works : D → Type 0) (state : D → DiskState) (p
         roots = (steps.names honest whole texts is.carries (λ due. lent old is)).roots is.roots;
       }
 
+  call_keeps : (old new : Store D) → Makes old new → Honest (disk_of new) → (held_of new).broken ≡ false → IsNamed old → IsNamed new
+  call_keeps old new (By_commit before behind name stamp request result commits) honest whole is =
+      record {
+        carries = commits.carries honest whole texts is.carries;
+        snapshots = commits.snapshots is.carries.played is.snapshots;
+        roots = (commits.names honest whole texts is.carries (λ due. lent before is)).roots is.roots;
+      }
+  call_keeps old new (By_tick before behind result steps) honest whole is = step_keeps before behind result steps honest whole is
+  call_keeps old new (By_checkpoint before behind result steps) honest whole is = step_keeps before behind result steps honest whole is
+
   calls_keep : (old new : Store D) → Calls old new → Honest (disk_of new) → IsNamed old → IsNamed new
   calls_keep old new (No_call store) honest is = is
-  calls_keep old new (By_commit before between last name stamp request result commits whole rest) honest is =
-      let here = honest_before between last rest honest in
-      calls_keep between last rest honest
-      (record {
-        carries = commits.carries here whole texts is.carries;
-        snapshots = commits.snapshots is.carries.played is.snapshots;
-        roots = (commits.names here whole texts is.carries (λ due. lent before is)).roots is.roots;
-      })
-  calls_keep old new (By_tick before between last result steps whole rest) honest is =
-      calls_keep between last rest honest (step_keeps before between result steps (honest_before between last rest honest) whole is)
-  calls_keep old new (By_checkpoint before between last result steps whole rest) honest is =
-      calls_keep between last rest honest (step_keeps before between result steps (honest_before between last rest honest) whole is)
+  calls_keep old new (And_then before between last call whole rest) honest is =
+      calls_keep between last rest honest (call_keeps before between call (honest_before between last rest honest) whole is)
 
   -- an opening of such a file
   module _ (disk : D) (store : Store D) (file : KeepsNamed texts (state disk).content) (opens : Opens Honest state past disk (Ok store))
@@ -174,6 +236,55 @@ module _ {D : Type 0} (Honest Works : D → Type 0) (state : D → DiskState) (p
         names = (images texts store is.roots image of).0;
       }
 
+  -- and what it leaves within a call that has a request, or a step
+  left_with : (store : Store D) → IsNamed store → (asked : TableRequest) (image : List ℕ)
+      → KeepsTablesOr texts (held_of store).kit (held_of store).tables (Some asked) image → NamesSnapshots (held_of store).kit image → KeepsNamed texts image
+  left_with store is asked image (inl keeps) names =
+      record { kit = (held_of store).kit; right = is.carries.right; tables = (held_of store).tables; tables_of_kit = is.carries.tables_of_kit; keeps = keeps; names = names }
+  left_with store is asked image (inr (lawful, keeps)) names =
+      let kit = (held_of store).kit in
+      let tables = (held_of store).tables in
+      let of_kit = is.carries.tables_of_kit in
+      record {
+        kit = kit;
+        right = is.carries.right;
+        tables = world_after kit tables asked.name asked.request;
+        tables_of_kit = record {
+          spelled = keep_after kit tables asked.name asked.request lawful.0.1 of_kit.spelled;
+          played = played_after kit tables asked.name asked.request lawful.1 of_kit.played;
+        };
+        keeps = keeps;
+        names = names;
+      }
+
+  left_by_step : {T : Type 0} (old new : Store D) (result : Result T Fault) (moments : List DiskState) → Steps Honest Works state past faults old result new → Honest (disk_of new) → IsNamed old
+      → Passes state past (disk_of old) (disk_of new) moments → (image : List ℕ) → IsImageOfOne moments image → KeepsNamed texts image
+  left_by_step old new result moments steps honest is passes image of =
+      let kit = (held_of old).kit in
+      let tables = (held_of old).tables in
+      record {
+        kit = kit;
+        right = is.carries.right;
+        tables = tables;
+        tables_of_kit = is.carries.tables_of_kit;
+        keeps = within (past (disk_of old)) (past (disk_of new)) (state (disk_of old)) (state (disk_of new)) (KeepsTables texts tables) (steps.keeps honest texts is.carries) moments passes image of;
+        names = within (past (disk_of old)) (past (disk_of new)) (state (disk_of old)) (state (disk_of new)) (NamesSnapshots kit)
+            (steps.names_stops honest texts is.carries (λ due. lent old is) is.roots) moments passes image of;
+      }
+
+  left_within : (old new : Store D) → Makes old new → Honest (disk_of new) → IsNamed old → (moments : List DiskState)
+      → Passes state past (disk_of old) (disk_of new) moments → (image : List ℕ) → IsImageOfOne moments image → KeepsNamed texts image
+  left_within old new (By_commit before behind name stamp request result commits) honest is moments passes image of =
+      let kit = (held_of before).kit in
+      let asked = for_table name request in
+      let Or : List ℕ → Type 0 = KeepsTablesOr texts kit (held_of before).tables (Some asked) in
+      left_with before is asked image
+      (within (past (disk_of before)) (past (disk_of behind)) (state (disk_of before)) (state (disk_of behind)) Or (commits.keeps honest texts is.carries) moments passes image of)
+      (within (past (disk_of before)) (past (disk_of behind)) (state (disk_of before)) (state (disk_of behind)) (NamesSnapshots kit)
+      (commits.names_stops honest texts is.carries (λ due. lent before is) is.roots) moments passes image of)
+  left_within old new (By_tick before behind result steps) honest is moments passes image of = left_by_step before behind result moments steps honest is passes image of
+  left_within old new (By_checkpoint before behind result steps) honest is moments passes image of = left_by_step before behind result moments steps honest is passes image of
+
   pub histories_name : (file : List ℕ) → Has file → KeepsNamed texts file
   histories_name file (New one kit right new) =
       record {
@@ -188,6 +299,11 @@ module _ {D : Type 0} (Honest Works : D → Type 0) (state : D → DiskState) (p
       let before = histories_name (state disk).content history in
       let is = opened disk first before opens named (honest_before first last calls honest) in
       left last (calls_keep first last calls honest is) image of
+  histories_name file (Within disk first last new moments image history opens named calls call honest passes of) =
+      let before = histories_name (state disk).content history in
+      let here = honest_by last new call honest in
+      let is = calls_keep first last calls here (opened disk first before opens named (honest_before first last calls here)) in
+      left_within last new call honest is moments passes file of
 
   pub histories_play_few : (disk : D) (store : Store D) → Has (state disk).content → Opens Honest state past disk (Ok store)
       → OpensNamed Honest state disk store → Honest (disk_of store) → PlaysFew (state disk).content (held_of store).kit (replayed_of store)

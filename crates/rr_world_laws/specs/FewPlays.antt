@@ -1,9 +1,10 @@
--- Histories of a file in which each call returned, and how few commands each opening of it plays.
+-- Histories of a file, with stops between calls and within them, and how few commands each opening of it plays.
 use Rattle.std.specs.Prelude.{◌≡◌, ℕ, List, false, Result, Ok}
 use Rattle.rr_checkpoint.specs.declared.writer.Tick.{Tick}
 use Rattle.rr_code.specs.declared.command.Command.{Command}
 use Rattle.rr_disk.specs.Disk.{DiskState, IsImage}
 use Rattle.rr_disk.specs.Moments.{EachImage}
+use Rattle.rr_images.specs.Schedules.Schedule.{IsImageOfOne}
 use Rattle.rr_kit.specs.declared.kit.Kit.{Kit}
 use Rattle.rr_kit.specs.Kits.{KitTexts, SpellsKit}
 use Rattle.rr_tables.specs.Records.Headline.{KeepsTables}
@@ -13,7 +14,8 @@ use Rattle.rr_store.specs.declared.fault.Fault.{Fault}
 use Rattle.rr_store.specs.declared.store.Store.{Store}
 use Rattle.rr_store.specs.Allowing.{FormatAllows}
 use Rattle.rr_store.specs.Committing.{Commits}
-use Rattle.rr_store.specs.Events.{Opens}
+use Rattle.rr_store.specs.declared.opening.Refused as opening
+use Rattle.rr_store.specs.Events.{Opens, Passes, disk_behind}
 use Rattle.rr_store.specs.Files.{AreTablesOf, IsNewStore, StandsFor}
 use Rattle.rr_store.specs.Holding.{GamesHaveSnapshots, disk_of, held_of, replayed_of}
 use Rattle.rr_store.specs.Named.{NamesRoots, NamesSnapshots, PlaysFew, SnapshotsAreShort}
@@ -46,25 +48,31 @@ pub record KeepsNamed (texts : KitTexts) (file : List ℕ) : Type 0 where
   pub names : NamesSnapshots kit file
 
 module _ {D : Type 0} (Honest Works : D → Type 0) (state : D → DiskState) (past : D → List DiskState) (faults writes syncs : D → ℕ) where
+  -- a call on a store, whatever it answers
+  pub data Call : Store D → Store D → Type 0 where
+    By_commit : (old new : Store D) (name : List ℕ) (stamp : ℕ) (request : Request Command) (result : Result ℕ Fault)
+        → Commits Honest Works state past faults writes syncs old name stamp request new result → Call old new
+    By_tick : (old new : Store D) (result : Result Tick Fault) → Steps Honest Works state past faults old result new → Call old new
+    By_checkpoint : (old new : Store D) (result : Result (Unit {0}) Fault) → Steps Honest Works state past faults old result new
+        → Call old new
+
   -- calls on a store, one after another: each returned, whether it took or refused what was asked, and no device call failed
   pub data Returned : Store D → Store D → Type 0 where
     No_call : (store : Store D) → Returned store store
-    By_commit : (old between new : Store D) (name : List ℕ) (stamp : ℕ) (request : Request Command) (result : Result ℕ Fault)
-        → Commits Honest Works state past faults writes syncs old name stamp request between result
-        → (held_of between).broken ≡ false → Returned between new → Returned old new
-    By_tick : (old between new : Store D) (result : Result Tick Fault) → Steps Honest Works state past faults old result between
-        → (held_of between).broken ≡ false → Returned between new → Returned old new
-    By_checkpoint : (old between new : Store D) (result : Result (Unit {0}) Fault)
-        → Steps Honest Works state past faults old result between
-        → (held_of between).broken ≡ false → Returned between new → Returned old new
+    And_then : (old between new : Store D) → Call old between → (held_of between).broken ≡ false → Returned between new
+        → Returned old new
 
-  -- A file with such a history: a new one of these texts; or one that a stop may leave of a program which opened such a file and
-  -- whose calls all returned.
+  -- A file with such a history: a new one of these texts; or one that a stop may leave of a program which opened such a file,
+  -- behind calls that all returned, or at a moment of the call behind these, whether that returns or its device fails.
   pub data History (texts : KitTexts) : List ℕ → Type 0 where
     New : (file : List ℕ) (kit : Kit) → SpellsKit texts kit → IsNewStore texts file → History texts file
     Behind : (disk : D) (opened last : Store D) (image : List ℕ) → History texts (state disk).content
         → Opens Honest state past disk (Ok opened) → OpensNamed Honest state disk opened → Returned opened last
         → Honest (disk_of last) → IsImage (state (disk_of last)) image → History texts image
+    Within : (disk : D) (opened last new : Store D) (moments : List DiskState) (image : List ℕ) → History texts (state disk).content
+        → Opens Honest state past disk (Ok opened) → OpensNamed Honest state disk opened → Returned opened last
+        → Call last new → Honest (disk_of new) → Passes state past (disk_of last) (disk_of new) moments
+        → IsImageOfOne moments image → History texts image
 
   -- whatever a stop leaves behind a formatting is such a file
   abbrev pub HistoriesBegin : Type 0
@@ -76,6 +84,21 @@ module _ {D : Type 0} (Honest Works : D → Type 0) (state : D → DiskState) (p
       (texts : KitTexts) (disk : D) (opened last : Store D) → History texts (state disk).content
       → Opens Honest state past disk (Ok opened) → OpensNamed Honest state disk opened → Returned opened last
       → Honest (disk_of last) → History texts (state (disk_of last)).content
+
+  -- also behind a call that failed with its device
+  abbrev pub HistoriesEnd : Type 0
+  HistoriesEnd =
+      (texts : KitTexts) (disk : D) (opened last new : Store D) (moments : List DiskState) → History texts (state disk).content
+      → Opens Honest state past disk (Ok opened) → OpensNamed Honest state disk opened → Returned opened last
+      → Call last new → Honest (disk_of new) → Passes state past (disk_of last) (disk_of new) moments
+      → History texts (state (disk_of new)).content
+
+  -- and so is what a stop leaves within an opening of such a file, whether that answers with a store or not
+  abbrev pub HistoriesStay : Type 0
+  HistoriesStay =
+      (texts : KitTexts) (disk : D) (result : Result (Store D) (opening.Refused D)) (moments : List DiskState) (image : List ℕ)
+      → History texts (state disk).content → Opens Honest state past disk result → Honest (disk_behind result)
+      → Passes state past disk (disk_behind result) moments → IsImageOfOne moments image → History texts image
 
   -- each such file keeps tables, and its root names just their snapshots
   abbrev pub HistoriesNameSnapshots : Type 0

@@ -1,7 +1,7 @@
 //! Laws on files and worlds: whatever comes to a store's file, each world that it keeps is sound; a file opens or is
 //! refused and never both; two fronts of the accepted requests never have one world; whatever lines are served are
-//! calls of a store; and few commands are played to open a file behind calls that returned. The calls do nothing, but
-//! for the one that opens a file: their contracts hold of all files, worlds and schedules.
+//! calls of a store; and few commands are played to open a file. The calls do nothing, but for the one that opens a
+//! file: their contracts hold of all files, worlds and schedules.
 //!
 //! Stands on `rr_moderator`, `rr_store`, `rr_tables` and `rr_laws`; nothing of the program stands on it. Its promises:
 //! `whatever_comes_is_sound`, `services_go_on` and `histories_play_few`.
@@ -12,7 +12,7 @@ ghost use Rattle.rr_kit.specs.Kits.{KitTexts};
 ghost use Rattle.rr_store.specs.Allowing.{Keeps};
 ghost use Rattle.rr_store.specs.Events.{Opens};
 ghost use Rattle.rr_store.specs.Holding.{Carries, disk_of, held_of};
-ghost use Rattle.rr_world_laws.specs.FewPlays.{HistoriesBegin, HistoriesGoOn, HistoriesNameSnapshots, HistoriesPlayFew, KitsHaveShortSnapshots, OpensNamed};
+ghost use Rattle.rr_world_laws.specs.FewPlays.{HistoriesBegin, HistoriesEnd, HistoriesGoOn, HistoriesNameSnapshots, HistoriesPlayFew, HistoriesStay, KitsHaveShortSnapshots, OpensNamed};
 ghost use Rattle.rr_world_laws.specs.Services.{ProgramsGoOn, ServicesGoOn, ServicesKeepInTime, SessionsJoin};
 ghost use Rattle.rr_world_laws.specs.Sessions.{SafeSessionsGoOn, SessionsAreSound, SessionsGoOn, SoundSessionsGoOn};
 ghost use Rattle.rr_world_laws.specs.Worlds.{FilesAreSound, RightKitsAreNotWrong, StandingFilesOpen, WhateverComesIsSound, WorldsAreSound, WorldsDiffer};
@@ -150,14 +150,16 @@ pub fn open_in_a_history<D: Disk + Drop>(alloc: Global, disk: D) -> Result<Store
     open(alloc, disk)
 }
 
-/// Few commands are played to open a file behind calls that returned. Whatever programs open a new file, one after another,
-/// and whatever commits, ticks and checkpoints of theirs return: what a stop leaves between two calls keeps tables, and its
-/// root has of each just the snapshots that it is to have. Nothing is said of what a stop leaves within a call, nor once a
-/// call on the device failed.
+/// Few commands are played to open a file. Whatever programs open a new file, one after another, and whatever commits, ticks
+/// and checkpoints they make: what a stop leaves between two calls, or at any moment of one, keeps tables, and its root has
+/// of each just the snapshots that it is to have. So it is of what a call leaves whose device failed.
 pub fn histories_play_few<D: Disk>()
-    // So a file begins that is formatted, and so it goes on where a program ends.
+    // So a file begins that is formatted, and so it goes on where a program ends, also behind a call whose device failed.
     ensures begin { HistoriesBegin D.Honest D.Works D.state D.past D.fault_count D.write_count D.sync_count }
     ensures go_on { HistoriesGoOn D.Honest D.Works D.state D.past D.fault_count D.write_count D.sync_count }
+    ensures end { HistoriesEnd D.Honest D.Works D.state D.past D.fault_count D.write_count D.sync_count }
+    // And so it is where a stop comes within an opening.
+    ensures stay { HistoriesStay D.Honest D.Works D.state D.past D.fault_count D.write_count D.sync_count }
 
     // Its root is so, and each opening plays few commands.
     ensures named { HistoriesNameSnapshots D.Honest D.Works D.state D.past D.fault_count D.write_count D.sync_count }

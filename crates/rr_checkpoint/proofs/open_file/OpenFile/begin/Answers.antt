@@ -1,6 +1,6 @@
 use Rattle.std.proofs.Common.{◌+◌, length, None, Option, ℕ, subst, arith}
 use Rattle.rr_disk.proofs.MomentLemmas.{weaker}
-use Rattle.rr_images.specs.Layout.{Keeps}
+use Rattle.rr_images.specs.Layout.{IsSameRoot, KeepsUnder}
 use Rattle.rr_checkpoint.specs.OpenFile.{IsBegunAt}
 use Rattle.rr_checkpoint.proofs.Records.{begin_stops, begin_carries}
 use Rattle.rr_checkpoint.proofs.Working.{on_err, is_long, no_short_half}
@@ -13,7 +13,7 @@ returns-in_err-shut-clause-stops g c = λ honest world carries.
     let file = c.args.self.now in
     let stays = g.met.D.Disk.content_may_stay c.args.disk.now (c.in_err-shut.ensures.honest honest) in
     let none = subst (λ (begun : Option ℕ). IsBegunAt begun (carries.layout.root.first + length carries.layout.near) carries.layout.far) c.requires carries.tells.begun in
-    weaker (c.in_err-shut.ensures.any_moment honest) (λ image. Keeps g.C.Codec.codec image world)
+    weaker (c.in_err-shut.ensures.any_moment honest) (λ image. KeepsUnder g.C.Codec.codec (IsSameRoot carries.layout) image world)
     (begin_stops g.C.Codec.codec file (g.D.Disk.state c.args.disk.now) world stays carries none c.other.result c.other.ensures c.next_gate.result c.next_gate.ensures.place)
 
 pub returns-clause-stops : goal.returns-clause-stops
@@ -21,7 +21,7 @@ returns-clause-stops g c = λ honest world carries.
     let file = c.args.self.now in
     let stays = g.met.D.Disk.content_may_stay c.args.disk.now (c.in_ok-shut.ensures.honest honest) in
     let none = subst (λ (begun : Option ℕ). IsBegunAt begun (carries.layout.root.first + length carries.layout.near) carries.layout.far) c.requires carries.tells.begun in
-    weaker (c.in_ok-shut.ensures.any_moment honest) (λ image. Keeps g.C.Codec.codec image world)
+    weaker (c.in_ok-shut.ensures.any_moment honest) (λ image. KeepsUnder g.C.Codec.codec (IsSameRoot carries.layout) image world)
     (begin_stops g.C.Codec.codec file (g.D.Disk.state c.args.disk.now) world stays carries none c.other.result c.other.ensures c.next_gate.result c.next_gate.ensures.place)
 
 pub returns-clause-carries : goal.returns-clause-carries

@@ -1,6 +1,8 @@
 use Rattle.std.proofs.Common.{Some, not}
 use Rattle.rr_disk.proofs.MomentLemmas.{weaker}
-use Rattle.rr_images.specs.Layout.{Keeps}
+use Rattle.rr_images.specs.Layout.{KeepsUnder}
+use Rattle.rr_checkpoint.specs.Calls.{IsRootAt}
+use Rattle.rr_checkpoint.specs.Checkpoint.{left_of}
 use Rattle.rr_checkpoint.proofs.Steps.{shut_stops, shut_carries}
 use Rattle.rr_checkpoint.proofs.Working.{on_err, is_long, no_short_root}
 use Rattle.rr_disk.specs.Calls.{account}
@@ -11,13 +13,13 @@ use Rattle.rr_checkpoint.proofs.open_file.OpenFile.shut_stale.Goals as goal
 pub returns-in_err-close-clause-stops : goal.returns-in_err-close-clause-stops
 returns-in_err-close-clause-stops g c = λ honest world carries.
     let stays = g.met.D.Disk.content_may_stay c.args.disk.now (c.in_err-close.ensures.honest honest) in
-    weaker (c.in_err-close.ensures.any_moment honest) (λ image. Keeps g.C.Codec.codec image world)
+    weaker (c.in_err-close.ensures.any_moment honest) (λ image. KeepsUnder g.C.Codec.codec (IsRootAt (left_of (Some c.args.checkpoint)) carries.layout carries.holding) image world)
     (shut_stops g.C.Codec.codec c.args.self.now c.args.checkpoint (g.D.Disk.state c.args.disk.now) world stays carries c.args.written c.requires.stage c.requires.all)
 
 pub returns-clause-stops : goal.returns-clause-stops
 returns-clause-stops g c = λ honest world carries.
     let stays = g.met.D.Disk.content_may_stay c.args.disk.now (c.in_ok-close.ensures.honest honest) in
-    weaker (c.in_ok-close.ensures.any_moment honest) (λ image. Keeps g.C.Codec.codec image world)
+    weaker (c.in_ok-close.ensures.any_moment honest) (λ image. KeepsUnder g.C.Codec.codec (IsRootAt (left_of (Some c.args.checkpoint)) carries.layout carries.holding) image world)
     (shut_stops g.C.Codec.codec c.args.self.now c.args.checkpoint (g.D.Disk.state c.args.disk.now) world stays carries c.args.written c.requires.stage c.requires.all)
 
 pub returns-clause-carries : goal.returns-clause-carries

@@ -2,7 +2,8 @@ use Rattle.std.proofs.Common.{◌≡◌, ◌∙◌, ℕ, ◌*◌, length, ap, su
 use Rattle.rr_disk.specs.Disk.{after_write}
 use Rattle.rr_disk.specs.Moments.{TornFrom}
 use Rattle.rr_disk.proofs.MomentLemmas.{weaker}
-use Rattle.rr_images.specs.Layout.{Keeps}
+use Rattle.rr_images.specs.Layout.{KeepsUnder}
+use Rattle.rr_checkpoint.specs.Calls.{IsRootAt}
 use Rattle.rr_checkpoint.proofs.Steps.{found_at, page_long, page_stops, page_carries}
 use Rattle.rr_checkpoint.proofs.Working.{on_err, no_far_page}
 use Rattle.rr_disk.specs.Calls.{Write, account}
@@ -22,7 +23,7 @@ returns-in_err-write-in-Some-clause-stops g c = λ honest world carries.
     let found = found_at c.args.checkpoint.plan.fresh.items c.deref.result.now c.args.written c.in-Some.fresh.now c.deref.ensures.value lookup.3.0 lookup.1 in
     let bytes = c.deref-in-Some.result.now in
     let place : 4096 * c.from.result ≡ 4096 * c.in-Some.fresh.now.page = ap (λ (page : ℕ). 4096 * page) c.from.ensures in
-    weaker (c.in_err-write-in-Some.ensures.any_moment honest) (λ image. Keeps codec image world)
+    weaker (c.in_err-write-in-Some.ensures.any_moment honest) (λ image. KeepsUnder codec (IsRootAt (left_of (Some c.args.checkpoint)) carries.layout carries.holding) image world)
     (λ image torn. page_stops codec c.args.self.now c.args.checkpoint state world stays carries c.args.written c.requires.stage c.in-Some.fresh.now found bytes c.deref-in-Some.ensures.value image
     (subst (λ (at : ℕ). TornFrom state at (length bytes) image) place torn))
 
@@ -35,7 +36,7 @@ returns-in_ok-write-in-Some-clause-stops g c = λ honest world carries.
     let found = found_at c.args.checkpoint.plan.fresh.items c.deref.result.now c.args.written c.in-Some.fresh.now c.deref.ensures.value lookup.3.0 lookup.1 in
     let bytes = c.deref-in-Some.result.now in
     let place : 4096 * c.from.result ≡ 4096 * c.in-Some.fresh.now.page = ap (λ (page : ℕ). 4096 * page) c.from.ensures in
-    weaker (c.in_ok-write-in-Some.ensures.any_moment honest) (λ image. Keeps codec image world)
+    weaker (c.in_ok-write-in-Some.ensures.any_moment honest) (λ image. KeepsUnder codec (IsRootAt (left_of (Some c.args.checkpoint)) carries.layout carries.holding) image world)
     (λ image torn. page_stops codec c.args.self.now c.args.checkpoint state world stays carries c.args.written c.requires.stage c.in-Some.fresh.now found bytes c.deref-in-Some.ensures.value image
     (subst (λ (at : ℕ). TornFrom state at (length bytes) image) place torn))
 

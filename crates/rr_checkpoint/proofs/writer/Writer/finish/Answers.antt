@@ -1,8 +1,10 @@
-use Rattle.std.proofs.Common.{◌∙◌, sym, refl, arith, subst}
+use Rattle.std.proofs.Common.{◌∙◌, inl, sym, refl, arith, subst}
 use Rattle.rr_disk.proofs.MomentLemmas.{started, joins}
-use Rattle.rr_images.specs.Layout.{Keeps}
+use Rattle.rr_images.specs.Layout.{IsEitherRoot, KeepsUnder}
+use Rattle.rr_images.proofs.Ticks.{still_root}
+use Rattle.rr_checkpoint.specs.Calls.{IsRootAt}
 use Rattle.rr_checkpoint.specs.Writer.{place_of, ticks_left_of, free_of}
-use Rattle.rr_checkpoint.proofs.Writers.{left_some, lowers_one, none_is_left, renewed_behind, holds_at_first, holds_more, rests_behind}
+use Rattle.rr_checkpoint.proofs.Writers.{left_some, lowers_one, none_is_left, renewed_behind, holds_at_first, holds_more, rests_behind, left_under, root_before}
 use Rattle.rr_checkpoint.proofs.Working.{on_err}
 use Rattle.rr_pages.specs.declared.free_pages.FreePages.{FreePages}
 use Rattle.rr_checkpoint.specs.Growing.{AreReclaimed}
@@ -17,8 +19,8 @@ loop-self-init g c =
       works = λ works. works;
       carries = λ honest world carries. (carries, holds_at_first (ticks_left_of c.args.self.now) carries.layout carries.holding);
       stops = λ honest world carries.
-          started (g.D.Disk.past disk) (g.D.Disk.state disk) (λ image. Keeps g.C.Codec.codec image world)
-          (λ image is. record { layout = carries.layout; kept = carries.between.each image is });
+          started (g.D.Disk.past disk) (g.D.Disk.state disk) (λ image. KeepsUnder g.C.Codec.codec (IsEitherRoot carries.layout carries.holding) image world)
+          (λ image is. record { layout = carries.layout; kept = carries.between.each image is; is_root = inl (still_root carries.layout) });
       renews = λ honest world carries some none. absurd (omega (arith, some, none));
       grows = λ honest world carries. never_grows refl;
       free = λ some. refl;
@@ -48,7 +50,11 @@ loop-self-preserved g c =
           );
       stops = λ honest world carries.
           let then = c.tick.ensures.honest honest in
-          joins (so_far.stops then world carries) (c.tick.ensures.stops honest world (so_far.carries then world carries).0);
+          let carried = so_far.carries then world carries in
+          joins (so_far.stops then world carries)
+          (left_under g.C.Codec.codec world (IsRootAt (ticks_left_of c.loop-self.self) carried.0.layout carried.0.holding) (IsEitherRoot carries.layout carries.holding)
+          (λ layout is. root_before (ticks_left_of c.loop-self.self) carries.layout carries.holding carried.0.layout carried.0.holding layout (carried.1.under_way under_way) is)
+          (c.tick.ensures.stops honest world carried.0));
       renews = λ honest world carries some none.
           let carried = so_far.carries (c.tick.ensures.honest honest) world carries in
           renewed_behind g.C.Codec.codec c.in_ok-tick.field-0 (ticks_left_of c.loop-self.self) (ticks_left_of c.tick.new.self) carries.layout carried.0.layout carries.holding carried.0.holding (g.D.Disk.state c.tick.new.disk) world
@@ -73,8 +79,13 @@ loop-self-preserved g c =
 
 pub returns-in_err-tick-clause-stops : goal.returns-in_err-tick-clause-stops
 returns-in_err-tick-clause-stops g c = λ honest world carries.
+    let under_way = left_some c.loop-self.self.checkpoint (sym c.is_some.ensures ∙ c.loop-self-test.true) in
     let then = c.tick.ensures.honest honest in
-    joins (c.loop-self.invariant.stops then world carries) (c.tick.ensures.stops honest world (c.loop-self.invariant.carries then world carries).0)
+    let carried = c.loop-self.invariant.carries then world carries in
+    joins (c.loop-self.invariant.stops then world carries)
+    (left_under g.C.Codec.codec world (IsRootAt (ticks_left_of c.loop-self.self) carried.0.layout carried.0.holding) (IsEitherRoot carries.layout carries.holding)
+    (λ layout is. root_before (ticks_left_of c.loop-self.self) carries.layout carries.holding carried.0.layout carried.0.holding layout (carried.1.under_way under_way) is)
+    (c.tick.ensures.stops honest world carried.0))
 
 pub returns-clause-carries : goal.returns-clause-carries
 returns-clause-carries g c = λ honest world carries.

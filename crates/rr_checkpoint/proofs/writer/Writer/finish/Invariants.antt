@@ -1,6 +1,7 @@
 use Rattle.std.proofs.Common.{◌≡◌, ◌+◌, ◌<◌, ◌≤◌, None}
 use Rattle.rr_disk.specs.Moments.{EachImage}
 use Rattle.rr_images.specs.Calls.{TakesNewer}
+use Rattle.rr_images.specs.Layout.{IsEitherRoot}
 use Rattle.rr_checkpoint.proofs.Writers.{HoldsSoFar}
 use Rattle.rr_checkpoint.specs.Calls.{LeavesKept}
 use Rattle.rr_checkpoint.specs.Growing.{AreReclaimed, GrowsWhereFull}
@@ -16,8 +17,8 @@ invariant-loop-self g l =
       carries : g.D.Disk.Honest l.disk → (world : g.C.Codec.codec.World) → (carries : Carries g.C.Codec.codec l.fn.self (g.D.Disk.state l.fn.disk) world)
           → (then : Carries g.C.Codec.codec l.self (g.D.Disk.state l.disk) world)
           × HoldsSoFar (ticks_left_of l.fn.self) (ticks_left_of l.self) carries.layout carries.holding then.layout then.holding;
-      stops : g.D.Disk.Honest l.disk → (world : g.C.Codec.codec.World) → Carries g.C.Codec.codec l.fn.self (g.D.Disk.state l.fn.disk) world
-          → LeavesKept g.C.Codec.codec (g.D.Disk.past l.fn.disk) (g.D.Disk.state l.fn.disk) (g.D.Disk.past l.disk) (g.D.Disk.state l.disk) world;
+      stops : g.D.Disk.Honest l.disk → (world : g.C.Codec.codec.World) → (carries : Carries g.C.Codec.codec l.fn.self (g.D.Disk.state l.fn.disk) world)
+          → LeavesKept g.C.Codec.codec (IsEitherRoot carries.layout carries.holding) (g.D.Disk.past l.fn.disk) (g.D.Disk.state l.fn.disk) (g.D.Disk.past l.disk) (g.D.Disk.state l.disk) world;
       renews : g.D.Disk.Honest l.disk → (world : g.C.Codec.codec.World) → (carries : Carries g.C.Codec.codec l.fn.self (g.D.Disk.state l.fn.disk) world) → 0 < ticks_left_of l.fn.self → ticks_left_of l.self ≡ 0
           → EachImage (g.D.Disk.state l.disk) (TakesNewer g.C.Codec.codec carries.layout world);
       grows : g.D.Disk.Honest l.disk → (world : g.C.Codec.codec.World) → Carries g.C.Codec.codec l.fn.self (g.D.Disk.state l.fn.disk) world

@@ -1,9 +1,11 @@
-use Rattle.std.proofs.Common.{◌∙◌, Some, refl, sym, subst, ◌≤◌, Option}
+use Rattle.std.proofs.Common.{◌∙◌, ℕ, inl, Some, refl, sym, ap, subst, ◌≤◌, Option}
 use Rattle.rr_disk.proofs.MomentLemmas.{started}
-use Rattle.rr_images.specs.Layout.{Keeps}
+use Rattle.rr_images.specs.Layout.{KeepsUnder}
+use Rattle.rr_images.proofs.Ticks.{still_root}
+use Rattle.rr_checkpoint.specs.Calls.{IsRootAt, LeavesKept}
 use Rattle.rr_checkpoint.specs.declared.writer.Tick.{Tick}
 use Rattle.rr_checkpoint.specs.Holds.{HoldsAt, RestsAt}
-use Rattle.rr_checkpoint.specs.Writer.{RenewsAt, StaysTakenAt}
+use Rattle.rr_checkpoint.specs.Writer.{RenewsAt, StaysTakenAt, ticks_left_of}
 use Rattle.rr_checkpoint.proofs.Writers.{carries_same, holds_told, never_none, renews_told, rests_told, taken_told}
 use Rattle.rr_checkpoint.proofs.Working.{on_err}
 use Rattle.rr_checkpoint.specs.declared.checkpoint.Checkpoint.{Checkpoint}
@@ -13,8 +15,28 @@ use Rattle.rr_checkpoint.proofs.writer.Writer.tick.Goals as goal
 pub returns-in-None-clause-stops : goal.returns-in-None-clause-stops
 returns-in-None-clause-stops g c = λ honest world carries.
     let disk = c.args.disk.now in
-    started (g.D.Disk.past disk) (g.D.Disk.state disk) (λ image. Keeps g.C.Codec.codec image world)
-    (λ image is. record { layout = carries.layout; kept = carries.between.each image is })
+    started (g.D.Disk.past disk) (g.D.Disk.state disk) (λ image. KeepsUnder g.C.Codec.codec (IsRootAt (ticks_left_of c.args.self.now) carries.layout carries.holding) image world)
+    (λ image is. record { layout = carries.layout; kept = carries.between.each image is; is_root = inl (still_root carries.layout) })
+
+pub returns-in_ok-self-in-Some-clause-stops : goal.returns-in_ok-self-in-Some-clause-stops
+returns-in_ok-self-in-Some-clause-stops g c = λ honest world carries.
+    let codec = g.C.Codec.codec in
+    let writer = c.args.self.now in
+    let disk = c.args.disk.now in
+    let new = c.advance.new.disk in
+    let under_way = sym c.take.ensures.value ∙ c.in-Some.is in
+    subst (λ (left : ℕ). LeavesKept codec (IsRootAt left carries.layout carries.holding) (g.D.Disk.past disk) (g.D.Disk.state disk) (g.D.Disk.past new) (g.D.Disk.state new) world) (ap left_of (sym under_way))
+    (c.in_ok-self-in-Some.ensures.stops honest world (carries_same codec writer.file (g.D.Disk.state disk) world writer.checkpoint (Some c.in-Some.checkpoint) under_way carries))
+
+pub returns-in_err-self-in-Some-clause-stops : goal.returns-in_err-self-in-Some-clause-stops
+returns-in_err-self-in-Some-clause-stops g c = λ honest world carries.
+    let codec = g.C.Codec.codec in
+    let writer = c.args.self.now in
+    let disk = c.args.disk.now in
+    let new = c.advance.new.disk in
+    let under_way = sym c.take.ensures.value ∙ c.in-Some.is in
+    subst (λ (left : ℕ). LeavesKept codec (IsRootAt left carries.layout carries.holding) (g.D.Disk.past disk) (g.D.Disk.state disk) (g.D.Disk.past new) (g.D.Disk.state new) world) (ap left_of (sym under_way))
+    (c.in_err-self-in-Some.ensures.stops honest world (carries_same codec writer.file (g.D.Disk.state disk) world writer.checkpoint (Some c.in-Some.checkpoint) under_way carries))
 
 pub returns-in_ok-self-in-Some-clause-renews : goal.returns-in_ok-self-in-Some-clause-renews
 returns-in_ok-self-in-Some-clause-renews g c = λ honest world carries.
@@ -41,7 +63,7 @@ returns-in-None-clause-carries g c = λ honest world carries.
     let state = g.D.Disk.state c.args.disk.now in
     let resting = (sym c.take.ensures.value ∙ c.in-None.is) ∙ sym c.take.ensures.after in (
       carries_same codec writer.file state world writer.checkpoint c.take.new.self resting carries,
-      record { root = refl; present = refl; coming = refl; middle = refl; far = refl },
+      record { root = refl; base = refl; present = refl; coming = refl; middle = refl; far = refl },
     )
 
 pub returns-in_ok-self-in-Some-clause-carries : goal.returns-in_ok-self-in-Some-clause-carries

@@ -3,15 +3,17 @@ use Rattle.rr_checkpoint.specs.declared.place.Place.{Place}
 use Rattle.rr_checkpoint.specs.Checkpoint.{left_behind_first}
 use Rattle.rr_checkpoint.specs.Writer as file
 use Rattle.rr_pages.specs.declared.journal.half.Half.{Half}
-use Rattle.rr_log.specs.Log.{place_of}
-use Rattle.rr_checkpoint.specs.Calls.{LeavesKept}
+use Rattle.rr_log.specs.Log.{place_of, ticks_left}
+use Rattle.rr_checkpoint.specs.Calls.{IsRootAt, LeavesKept}
+use Rattle.rr_checkpoint.proofs.Writers.{left_under}
+use Rattle.rr_images.proofs.Ticks.{still_root}
 use Rattle.rr_disk.proofs.MomentLemmas.{started, stays}
-use Rattle.rr_images.specs.Layout.{Keeps, Layout, Begun, far_lines}
+use Rattle.rr_images.specs.Layout.{IsSameRoot, KeepsUnder, Layout, Begun, far_lines}
 use Rattle.rr_images.specs.Holding.{Holding}
 use Rattle.rr_log.specs.Calls.{tables_due}
 use Rattle.rr_log.specs.Carrying.{Carries, HoldsWorld, IsPlanned}
 use Rattle.rr_log.specs.Lent.{lent_of}
-use Rattle.rr_log.proofs.Carried.{kept_now, begun_carries, half_behind, some_behind, starts_with}
+use Rattle.rr_log.proofs.Carried.{kept_under, begun_carries, half_behind, some_behind, starts_with}
 use Rattle.rr_reading.specs.Worlds.Spelling.{worlds}
 use Rattle.rr_pages.specs.FreePages.{coming_of, present_of}
 use Rattle.rr_checkpoint.proofs.Growing.{grows_by_pages}
@@ -23,7 +25,9 @@ pub returns-in_err-plan-clause-stops : goal.returns-in_err-plan-clause-stops
 returns-in_err-plan-clause-stops g c = λ honest world carries.
     let log = c.args.self.now in
     let same = c.plan.ensures.unchanged.disk in
-    stays (started (g.D.Disk.past log.disk) (g.D.Disk.state log.disk) (λ image. Keeps (worlds g.R.Rules.rules) image world) (kept_now g.R.Rules.rules log (g.D.Disk.state log.disk) world carries))
+    let IsRoot : Layout (worlds g.R.Rules.rules) → Type 0 = IsRootAt (ticks_left log) carries.carried.layout carries.carried.holding in
+    stays (started (g.D.Disk.past log.disk) (g.D.Disk.state log.disk) (λ image. KeepsUnder (worlds g.R.Rules.rules) IsRoot image world)
+    (kept_under g.R.Rules.rules log (g.D.Disk.state log.disk) world carries IsRoot (inl (still_root carries.carried.layout))))
     (ap g.D.Disk.past same) (ap g.D.Disk.state same)
 
 pub returns-in_err-plan-clause-carries : goal.returns-in_err-plan-clause-carries
@@ -38,16 +42,17 @@ returns-in-Ok-clause-stops g c = λ honest world carries.
     let codec = worlds g.R.Rules.rules in
     let planned = c.plan.new.self in
     let new = c.begin.new.disk in
-    let there = subst (λ (disk : g.row.D.Denot). Carries g.R.Rules.rules planned (g.D.Disk.state disk) world) (sym c.plan.ensures.unchanged.disk)
-    (c.plan.ensures.carries (g.D.Disk.state log.disk) world carries).0 in
+    let there = subst (λ (disk : g.row.D.Denot). (then : Carries g.R.Rules.rules planned (g.D.Disk.state disk) world) × (then.carried.layout ≡ carries.carried.layout)) (sym c.plan.ensures.unchanged.disk)
+    (c.plan.ensures.carries (g.D.Disk.state log.disk) world carries) in
     let starts =
-    starts_with codec planned.writer (g.D.Disk.state planned.disk) world c.in_ok-plan.field-0.plan (place_of planned).begun there.carried
+    starts_with codec planned.writer (g.D.Disk.state planned.disk) world c.in_ok-plan.field-0.plan (place_of planned).begun carries.carried.layout (there.0.carried, there.1)
     (λ found.
     let plan = subst (λ (disk : g.row.D.Denot). IsPlanned g.R.Rules.rules planned c.in_ok-plan.field-0 (g.D.Disk.state disk) world carries.carried.layout (tables_due log.base (lent_of g.T.TablesInWords c.args.tables.now)).snapshots) (sym c.plan.ensures.unchanged.disk)
     (c.in_ok-plan.ensures.found (g.D.Disk.state log.disk) world (λ none. found (ap (λ (place : Place). place.begun) c.plan.ensures.unchanged.place ∙ none)) carries) in
-    (plan.carries.carried, plan.may)) in
-    subst (λ (disk : g.row.D.Denot). LeavesKept codec (g.D.Disk.past disk) (g.D.Disk.state disk) (g.D.Disk.past new) (g.D.Disk.state new) world) c.plan.ensures.unchanged.disk
-    (c.in-Ok.ensures.stops honest world starts.0 starts.1)
+    (plan.carries.carried, plan.may, plan.same)) in
+    let IsRoot : Layout codec → Type 0 = IsRootAt (ticks_left log) carries.carried.layout carries.carried.holding in
+    subst (λ (disk : g.row.D.Denot). LeavesKept codec IsRoot (g.D.Disk.past disk) (g.D.Disk.state disk) (g.D.Disk.past new) (g.D.Disk.state new) world) c.plan.ensures.unchanged.disk
+    (left_under codec world (IsSameRoot starts.0.layout) IsRoot (λ layout is. inl (subst (λ (before : Layout codec). IsSameRoot before layout) starts.2 is)) (c.in-Ok.ensures.stops honest world starts.0 starts.1))
 
 pub returns-in-Err-clause-stops : goal.returns-in-Err-clause-stops
 returns-in-Err-clause-stops g c = λ honest world carries.
@@ -55,16 +60,17 @@ returns-in-Err-clause-stops g c = λ honest world carries.
     let codec = worlds g.R.Rules.rules in
     let planned = c.plan.new.self in
     let new = c.begin.new.disk in
-    let there = subst (λ (disk : g.row.D.Denot). Carries g.R.Rules.rules planned (g.D.Disk.state disk) world) (sym c.plan.ensures.unchanged.disk)
-    (c.plan.ensures.carries (g.D.Disk.state log.disk) world carries).0 in
+    let there = subst (λ (disk : g.row.D.Denot). (then : Carries g.R.Rules.rules planned (g.D.Disk.state disk) world) × (then.carried.layout ≡ carries.carried.layout)) (sym c.plan.ensures.unchanged.disk)
+    (c.plan.ensures.carries (g.D.Disk.state log.disk) world carries) in
     let starts =
-    starts_with codec planned.writer (g.D.Disk.state planned.disk) world c.in_ok-plan.field-0.plan (place_of planned).begun there.carried
+    starts_with codec planned.writer (g.D.Disk.state planned.disk) world c.in_ok-plan.field-0.plan (place_of planned).begun carries.carried.layout (there.0.carried, there.1)
     (λ found.
     let plan = subst (λ (disk : g.row.D.Denot). IsPlanned g.R.Rules.rules planned c.in_ok-plan.field-0 (g.D.Disk.state disk) world carries.carried.layout (tables_due log.base (lent_of g.T.TablesInWords c.args.tables.now)).snapshots) (sym c.plan.ensures.unchanged.disk)
     (c.in_ok-plan.ensures.found (g.D.Disk.state log.disk) world (λ none. found (ap (λ (place : Place). place.begun) c.plan.ensures.unchanged.place ∙ none)) carries) in
-    (plan.carries.carried, plan.may)) in
-    subst (λ (disk : g.row.D.Denot). LeavesKept codec (g.D.Disk.past disk) (g.D.Disk.state disk) (g.D.Disk.past new) (g.D.Disk.state new) world) c.plan.ensures.unchanged.disk
-    (c.in-Err.ensures.stops honest world starts.0 starts.1)
+    (plan.carries.carried, plan.may, plan.same)) in
+    let IsRoot : Layout codec → Type 0 = IsRootAt (ticks_left log) carries.carried.layout carries.carried.holding in
+    subst (λ (disk : g.row.D.Denot). LeavesKept codec IsRoot (g.D.Disk.past disk) (g.D.Disk.state disk) (g.D.Disk.past new) (g.D.Disk.state new) world) c.plan.ensures.unchanged.disk
+    (left_under codec world (IsSameRoot starts.0.layout) IsRoot (λ layout is. inl (subst (λ (before : Layout codec). IsSameRoot before layout) starts.2 is)) (c.in-Err.ensures.stops honest world starts.0 starts.1))
 
 pub returns-in-Ok-clause-carries : goal.returns-in-Ok-clause-carries
 returns-in-Ok-clause-carries g c = λ honest whole world lent carries.
@@ -129,14 +135,14 @@ returns-in-Err-clause-device g c = λ honest world carries.
     let log = c.args.self.now in
     let codec = worlds g.R.Rules.rules in
     let planned = c.plan.new.self in
-    let there = subst (λ (disk : g.row.D.Denot). Carries g.R.Rules.rules planned (g.D.Disk.state disk) world) (sym c.plan.ensures.unchanged.disk)
-    (c.plan.ensures.carries (g.D.Disk.state log.disk) world carries).0 in
+    let there = subst (λ (disk : g.row.D.Denot). (then : Carries g.R.Rules.rules planned (g.D.Disk.state disk) world) × (then.carried.layout ≡ carries.carried.layout)) (sym c.plan.ensures.unchanged.disk)
+    (c.plan.ensures.carries (g.D.Disk.state log.disk) world carries) in
     let starts =
-    starts_with codec planned.writer (g.D.Disk.state planned.disk) world c.in_ok-plan.field-0.plan (place_of planned).begun there.carried
+    starts_with codec planned.writer (g.D.Disk.state planned.disk) world c.in_ok-plan.field-0.plan (place_of planned).begun carries.carried.layout (there.0.carried, there.1)
     (λ found.
     let plan = subst (λ (disk : g.row.D.Denot). IsPlanned g.R.Rules.rules planned c.in_ok-plan.field-0 (g.D.Disk.state disk) world carries.carried.layout (tables_due log.base (lent_of g.T.TablesInWords c.args.tables.now)).snapshots) (sym c.plan.ensures.unchanged.disk)
     (c.in_ok-plan.ensures.found (g.D.Disk.state log.disk) world (λ none. found (ap (λ (place : Place). place.begun) c.plan.ensures.unchanged.place ∙ none)) carries) in
-    (plan.carries.carried, plan.may)) in
+    (plan.carries.carried, plan.may, plan.same)) in
     c.in-Err.ensures.device honest world starts.0 starts.1
 
 pub returns-in-Ok-clause-left : goal.returns-in-Ok-clause-left
@@ -172,14 +178,14 @@ returns-in-Ok-clause-grows g c = λ honest world carries.
     let log = c.args.self.now in
     let codec = worlds g.R.Rules.rules in
     let planned = c.plan.new.self in
-    let there = subst (λ (disk : g.row.D.Denot). Carries g.R.Rules.rules planned (g.D.Disk.state disk) world) (sym c.plan.ensures.unchanged.disk)
-    (c.plan.ensures.carries (g.D.Disk.state log.disk) world carries).0 in
+    let there = subst (λ (disk : g.row.D.Denot). (then : Carries g.R.Rules.rules planned (g.D.Disk.state disk) world) × (then.carried.layout ≡ carries.carried.layout)) (sym c.plan.ensures.unchanged.disk)
+    (c.plan.ensures.carries (g.D.Disk.state log.disk) world carries) in
     let starts =
-    starts_with codec planned.writer (g.D.Disk.state planned.disk) world c.in_ok-plan.field-0.plan (place_of planned).begun there.carried
+    starts_with codec planned.writer (g.D.Disk.state planned.disk) world c.in_ok-plan.field-0.plan (place_of planned).begun carries.carried.layout (there.0.carried, there.1)
     (λ found.
     let plan = subst (λ (disk : g.row.D.Denot). IsPlanned g.R.Rules.rules planned c.in_ok-plan.field-0 (g.D.Disk.state disk) world carries.carried.layout (tables_due log.base (lent_of g.T.TablesInWords c.args.tables.now)).snapshots) (sym c.plan.ensures.unchanged.disk)
     (c.in_ok-plan.ensures.found (g.D.Disk.state log.disk) world (λ none. found (ap (λ (place : Place). place.begun) c.plan.ensures.unchanged.place ∙ none)) carries) in
-    (plan.carries.carried, plan.may)) in
+    (plan.carries.carried, plan.may, plan.same)) in
     let free = file.free_of c.begin.new.self in
     let disk = c.begin.new.disk in
     record {
@@ -191,7 +197,7 @@ returns-in-Ok-clause-grows g c = λ honest world carries.
           absurd (omega (arith, some, none));
       ends = λ some few. absurd (omega (arith, some, c.requires.resting));
       begins = λ none begun.
-          c.in-Ok.ensures.same_len honest world there.carried (ap (λ (place : Place). place.begun) c.plan.ensures.unchanged.place ∙ begun)
+          c.in-Ok.ensures.same_len honest world there.0.carried (ap (λ (place : Place). place.begun) c.plan.ensures.unchanged.place ∙ begun)
           ∙ ap (λ (d : g.row.D.Denot). g.D.Disk.file_len d) c.plan.ensures.unchanged.disk;
     }
 
@@ -200,14 +206,14 @@ returns-in-Err-clause-grows g c = λ honest world carries.
     let log = c.args.self.now in
     let codec = worlds g.R.Rules.rules in
     let planned = c.plan.new.self in
-    let there = subst (λ (disk : g.row.D.Denot). Carries g.R.Rules.rules planned (g.D.Disk.state disk) world) (sym c.plan.ensures.unchanged.disk)
-    (c.plan.ensures.carries (g.D.Disk.state log.disk) world carries).0 in
+    let there = subst (λ (disk : g.row.D.Denot). (then : Carries g.R.Rules.rules planned (g.D.Disk.state disk) world) × (then.carried.layout ≡ carries.carried.layout)) (sym c.plan.ensures.unchanged.disk)
+    (c.plan.ensures.carries (g.D.Disk.state log.disk) world carries) in
     let starts =
-    starts_with codec planned.writer (g.D.Disk.state planned.disk) world c.in_ok-plan.field-0.plan (place_of planned).begun there.carried
+    starts_with codec planned.writer (g.D.Disk.state planned.disk) world c.in_ok-plan.field-0.plan (place_of planned).begun carries.carried.layout (there.0.carried, there.1)
     (λ found.
     let plan = subst (λ (disk : g.row.D.Denot). IsPlanned g.R.Rules.rules planned c.in_ok-plan.field-0 (g.D.Disk.state disk) world carries.carried.layout (tables_due log.base (lent_of g.T.TablesInWords c.args.tables.now)).snapshots) (sym c.plan.ensures.unchanged.disk)
     (c.in_ok-plan.ensures.found (g.D.Disk.state log.disk) world (λ none. found (ap (λ (place : Place). place.begun) c.plan.ensures.unchanged.place ∙ none)) carries) in
-    (plan.carries.carried, plan.may)) in
+    (plan.carries.carried, plan.may, plan.same)) in
     let free = file.free_of c.begin.new.self in
     let disk = c.begin.new.disk in
     record {
@@ -217,6 +223,6 @@ returns-in-Err-clause-grows g c = λ honest world carries.
       rests = λ whole none. absurd (cc whole);
       ends = λ some few. absurd (omega (arith, some, c.requires.resting));
       begins = λ none begun.
-          c.in-Err.ensures.same_len honest world there.carried (ap (λ (place : Place). place.begun) c.plan.ensures.unchanged.place ∙ begun)
+          c.in-Err.ensures.same_len honest world there.0.carried (ap (λ (place : Place). place.begun) c.plan.ensures.unchanged.place ∙ begun)
           ∙ ap (λ (d : g.row.D.Denot). g.D.Disk.file_len d) c.plan.ensures.unchanged.disk;
     }

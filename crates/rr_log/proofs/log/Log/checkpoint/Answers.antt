@@ -1,6 +1,9 @@
-use Rattle.std.proofs.Common.{◌≡◌, ◌∙◌, ◌+◌, ℕ, Err, inl, inr, ap, subst, sym, arith, refl}
+use Rattle.std.proofs.Common.{◌≡◌, ◌∙◌, ◌+◌, ◌<◌, ℕ, Err, inl, inr, ap, subst, sym, arith, refl}
 use Rattle.rr_disk.proofs.MomentLemmas.{started, joins}
-use Rattle.rr_images.specs.Layout.{Keeps}
+use Rattle.rr_checkpoint.specs.Calls.{IsRootAt}
+use Rattle.rr_checkpoint.proofs.Writers.{left_under}
+use Rattle.rr_images.specs.Layout.{IsEitherRoot, KeepsUnder, Layout}
+use Rattle.rr_images.proofs.Ticks.{still_root}
 use Rattle.rr_log.specs.declared.fault.Fault.{Fault}
 use Rattle.rr_log.specs.declared.fault.Fault.TheVariants as F
 use Rattle.rr_images.specs.Holding.{Holding}
@@ -8,21 +11,44 @@ use Rattle.rr_log.specs.Calls.{tables_due}
 use Rattle.rr_log.specs.Carrying.{HoldsWorld}
 use Rattle.rr_log.specs.Lent.{lent_of}
 use Rattle.rr_log.specs.Fault.{IsWant}
-use Rattle.rr_log.proofs.Carried.{device_more, device_so, kept_now, newer_begun, newer_under_way, never_whole, next_begun, next_under_way, ok_so, only_breaks, renews_next, root_next, takes_root}
+use Rattle.rr_log.proofs.Carried.{device_more, device_so, kept_under, newer_begun, newer_under_way, never_whole, next_begun, next_under_way, ok_so, only_breaks, renews_next, root_next, takes_root}
 use Rattle.rr_reading.specs.Worlds.Spelling.{worlds}
 use Rattle.std.proofs.lemmas.Result.{err_from_is_err_and}
 use Rattle.rr_pages.specs.FreePages.{coming_of, present_of}
 use Rattle.rr_checkpoint.proofs.Growing.{grows_on}
 use Rattle.rr_checkpoint.proofs.Working.{on_err}
-use Rattle.rr_log.specs.Log.{free_of, is_broken}
+use Rattle.rr_log.specs.Log.{free_of, is_broken, ticks_left}
+use Rattle.rr_log.specs.Roots.{IsRootWithin}
 use Rattle.rr_log.proofs.Growing.{err_so, grows_told}
-use Rattle.rr_log.proofs.Roots.{no_step}
+use Rattle.rr_log.proofs.Roots.{no_step, within_begun, within_step, within_under_way}
 use Rattle.rr_log.proofs.log.Log.checkpoint.Goals as goal
 
 pub returns-then-self-clause-stops : goal.returns-then-self-clause-stops
 returns-then-self-clause-stops g c = λ honest world lent carries.
     let log = c.args.self.now in
-    started (g.D.Disk.past log.disk) (g.D.Disk.state log.disk) (λ image. Keeps (worlds g.R.Rules.rules) image world) (kept_now g.R.Rules.rules log (g.D.Disk.state log.disk) world carries)
+    let due = (tables_due log.base (lent_of g.T.TablesInWords c.args.tables.now)).snapshots in
+    let IsRoot : Layout (worlds g.R.Rules.rules) → Type 0 = IsRootWithin log due carries.carried.layout carries.carried.holding in
+    started (g.D.Disk.past log.disk) (g.D.Disk.state log.disk) (λ image. KeepsUnder (worlds g.R.Rules.rules) IsRoot image world)
+    (kept_under g.R.Rules.rules log (g.D.Disk.state log.disk) world carries IsRoot (inl (still_root carries.carried.layout)))
+
+pub returns-then-ticks_left-gt0-clause-stops : goal.returns-then-ticks_left-gt0-clause-stops
+returns-then-ticks_left-gt0-clause-stops g c = λ honest world lent carries.
+    let log = c.args.self.now in
+    let codec = worlds g.R.Rules.rules in
+    let due = (tables_due log.base (lent_of g.T.TablesInWords c.args.tables.now)).snapshots in
+    let before = carries.carried.layout in
+    let coming = carries.carried.holding in
+    let some : 0 < ticks_left log = omega (arith, c.ticks_left.ensures, c.if-ticks_left-gt0.true) in
+    left_under codec world (IsEitherRoot before coming) (IsRootWithin log due before coming) (λ layout is. within_under_way {old = log} some layout is) (c.finish.ensures.stops honest world carries)
+
+pub returns-in_err-begin-clause-stops : goal.returns-in_err-begin-clause-stops
+returns-in_err-begin-clause-stops g c = λ honest world lent carries.
+    let log = c.args.self.now in
+    let codec = worlds g.R.Rules.rules in
+    let due = (tables_due log.base (lent_of g.T.TablesInWords c.args.tables.now)).snapshots in
+    let before = carries.carried.layout in
+    let coming = carries.carried.holding in
+    left_under codec world (IsRootAt (ticks_left log) before coming) (IsRootWithin log due before coming) (λ layout is. within_step {old = log} layout is) (c.in_err-begin.ensures.stops honest world carries)
 
 pub returns-then-ticks_left-gt0-clause-carries : goal.returns-then-ticks_left-gt0-clause-carries
 returns-then-ticks_left-gt0-clause-carries g c = λ honest whole world lent carries. c.finish.ensures.carries honest whole world carries
@@ -52,13 +78,33 @@ returns-then-ticks_left-gt0-clause-root g c = ok_so c.finish.result _ _ (λ rene
 
 pub returns-in_err-finish-clause-stops : goal.returns-in_err-finish-clause-stops
 returns-in_err-finish-clause-stops g c = λ honest world lent carries.
+    let log = c.args.self.now in
+    let codec = worlds g.R.Rules.rules in
+    let due = (tables_due log.base (lent_of g.T.TablesInWords c.args.tables.now)).snapshots in
+    let before = carries.carried.layout in
+    let coming = carries.carried.holding in
+    let IsRoot : Layout codec → Type 0 = IsRootWithin log due before coming in
+    let none : ticks_left log ≡ 0 = omega (arith, c.ticks_left.ensures, c.if-ticks_left-gt0.false) in
+    let some : 0 < ticks_left c.begin.new.self = let left = c.in_ok-begin.ensures.some in omega (arith, left) in
     let then = c.in_err-finish.ensures.honest honest in
-    joins (c.in_ok-begin.ensures.stops then world carries) (c.in_err-finish.ensures.stops honest world (c.in_ok-begin.ensures.carries then c.in_ok-begin.ensures.broken world lent carries))
+    let begun = c.in_ok-begin.ensures.roots c.in_ok-begin.ensures.broken then world lent carries in
+    joins (left_under codec world (IsRootAt (ticks_left log) before coming) IsRoot (λ layout is. within_step {old = log} layout is) (c.in_ok-begin.ensures.stops then world carries))
+    (left_under codec world (IsEitherRoot begun.0.carried.layout begun.0.carried.holding) IsRoot (λ layout is. within_begun none some begun.1 layout is) (c.in_err-finish.ensures.stops honest world begun.0))
 
 pub returns-clause-stops : goal.returns-clause-stops
 returns-clause-stops g c = λ honest world lent carries.
+    let log = c.args.self.now in
+    let codec = worlds g.R.Rules.rules in
+    let due = (tables_due log.base (lent_of g.T.TablesInWords c.args.tables.now)).snapshots in
+    let before = carries.carried.layout in
+    let coming = carries.carried.holding in
+    let IsRoot : Layout codec → Type 0 = IsRootWithin log due before coming in
+    let none : ticks_left log ≡ 0 = omega (arith, c.ticks_left.ensures, c.if-ticks_left-gt0.false) in
+    let some : 0 < ticks_left c.begin.new.self = let left = c.in_ok-begin.ensures.some in omega (arith, left) in
     let then = c.in_ok-finish.ensures.honest honest in
-    joins (c.in_ok-begin.ensures.stops then world carries) (c.in_ok-finish.ensures.stops honest world (c.in_ok-begin.ensures.carries then c.in_ok-begin.ensures.broken world lent carries))
+    let begun = c.in_ok-begin.ensures.roots c.in_ok-begin.ensures.broken then world lent carries in
+    joins (left_under codec world (IsRootAt (ticks_left log) before coming) IsRoot (λ layout is. within_step {old = log} layout is) (c.in_ok-begin.ensures.stops then world carries))
+    (left_under codec world (IsEitherRoot begun.0.carried.layout begun.0.carried.holding) IsRoot (λ layout is. within_begun none some begun.1 layout is) (c.in_ok-finish.ensures.stops honest world begun.0))
 
 pub returns-clause-carries : goal.returns-clause-carries
 returns-clause-carries g c = λ honest whole world lent carries.

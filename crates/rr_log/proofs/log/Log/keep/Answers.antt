@@ -2,17 +2,20 @@ use Rattle.std.proofs.Common.{◌≡◌, ◌⊎◌, inl, inr, ◌+◌, ◌∙◌
 use Rattle.std.proofs.lemmas.Result.{err_from_is_err_and}
 use Rattle.rr_disk.proofs.MomentLemmas.{started, joins, weaker}
 use Rattle.rr_images.specs.Calls.{TakesNewer}
-use Rattle.rr_images.specs.Layout.{Keeps}
+use Rattle.rr_checkpoint.specs.Calls.{IsRootAt}
+use Rattle.rr_checkpoint.proofs.Writers.{either_under}
+use Rattle.rr_images.specs.Layout.{IsSameRoot, KeepsUnder, Layout}
+use Rattle.rr_images.proofs.Ticks.{still_root}
 use Rattle.rr_images.specs.Steps.{with_line}
 use Rattle.rr_log.specs.Carrying.{Carries}
 use Rattle.rr_log.specs.Lent.{lent_of}
 use Rattle.rr_log.specs.declared.fault.Fault.TheVariants as F
-use Rattle.rr_log.proofs.Carried.{full_on, is_full, is_put_off, kept_now, no_more_room, only_breaks, renewed_line, renews_now, renews_refused, same_count, same_disk, same_images, told_behind}
+use Rattle.rr_log.proofs.Carried.{full_on, is_full, is_put_off, kept_under, no_more_room, only_breaks, renewed_line, renews_now, renews_refused, same_count, same_disk, same_images, told_behind}
 use Rattle.rr_reading.specs.Worlds.Spelling.{worlds}
 use Rattle.rr_reading.specs.Worlds.World.{World}
-use Rattle.rr_log.specs.Log.{place_of}
+use Rattle.rr_log.specs.Log.{place_of, ticks_left}
 use Rattle.rr_log.proofs.Growing.{kept_grows, kept_pages, pages_still, stays_long}
-use Rattle.rr_log.proofs.Roots.{no_step, then_record}
+use Rattle.rr_log.proofs.Roots.{no_step, root_behind, then_record}
 use Rattle.rr_log.specs.Calls.{tables_due}
 use Rattle.rr_log.specs.Roots.{KeepsRoots}
 use Rattle.rr_log.proofs.log.Log.keep.Goals as goal
@@ -21,27 +24,32 @@ pub returns-then-self-clause-stops : goal.returns-then-self-clause-stops
 returns-then-self-clause-stops g c = λ honest old new takes same lent carries.
     let log = c.args.self.now in
     let codec = worlds g.R.Rules.rules in
-    started (g.D.Disk.past log.disk) (g.D.Disk.state log.disk) (λ image. Keeps codec image old ⊎ Keeps codec image new)
-    (λ image is. inl (kept_now g.R.Rules.rules log (g.D.Disk.state log.disk) old carries image is))
+    let IsRoot : Layout codec → Type 0 = IsRootAt (ticks_left log) carries.carried.layout carries.carried.holding in
+    started (g.D.Disk.past log.disk) (g.D.Disk.state log.disk) (λ image. KeepsUnder codec IsRoot image old ⊎ KeepsUnder codec IsRoot image new)
+    (λ image is. inl (kept_under g.R.Rules.rules log (g.D.Disk.state log.disk) old carries IsRoot (inl (still_root carries.carried.layout)) image is))
 
 pub returns-then-is_past_last-clause-stops : goal.returns-then-is_past_last-clause-stops
 returns-then-is_past_last-clause-stops g c = λ honest old new takes same lent carries.
     let log = c.args.self.now in
     let codec = worlds g.R.Rules.rules in
-    started (g.D.Disk.past log.disk) (g.D.Disk.state log.disk) (λ image. Keeps codec image old ⊎ Keeps codec image new)
-    (λ image is. inl (kept_now g.R.Rules.rules log (g.D.Disk.state log.disk) old carries image is))
+    let IsRoot : Layout codec → Type 0 = IsRootAt (ticks_left log) carries.carried.layout carries.carried.holding in
+    started (g.D.Disk.past log.disk) (g.D.Disk.state log.disk) (λ image. KeepsUnder codec IsRoot image old ⊎ KeepsUnder codec IsRoot image new)
+    (λ image is. inl (kept_under g.R.Rules.rules log (g.D.Disk.state log.disk) old carries IsRoot (inl (still_root carries.carried.layout)) image is))
 
 pub returns-in_err-full-clause-stops : goal.returns-in_err-full-clause-stops
 returns-in_err-full-clause-stops g c = λ honest old new takes same lent carries.
     let codec = worlds g.R.Rules.rules in
-    weaker (c.in_err-full.ensures.stops honest old carries) (λ image. Keeps codec image old ⊎ Keeps codec image new) (λ image keeps. inl keeps)
+    let IsRoot : Layout codec → Type 0 = IsRootAt (ticks_left c.args.self.now) carries.carried.layout carries.carried.holding in
+    weaker (c.in_err-full.ensures.stops honest old carries) (λ image. KeepsUnder codec IsRoot image old ⊎ KeepsUnder codec IsRoot image new) (λ image keeps. inl keeps)
 
 pub returns-in_err-append-clause-stops : goal.returns-in_err-append-clause-stops
 returns-in_err-append-clause-stops g c = λ honest old new takes same lent carries.
     let codec = worlds g.R.Rules.rules in
     let then = c.in_err-append.ensures.honest honest in
-    joins (weaker (c.in_ok-full.ensures.stops then old carries) (λ image. Keeps codec image old ⊎ Keeps codec image new) (λ image keeps. inl keeps))
-    (c.in_err-append.ensures.stops honest old new takes (c.in_ok-full.ensures.carries then c.in_ok-full.ensures.broken old lent carries))
+    let IsRoot : Layout codec → Type 0 = IsRootAt (ticks_left c.args.self.now) carries.carried.layout carries.carried.holding in
+    let ticked = c.in_ok-full.ensures.roots c.in_ok-full.ensures.broken then old lent carries in
+    joins (weaker (c.in_ok-full.ensures.stops then old carries) (λ image. KeepsUnder codec IsRoot image old ⊎ KeepsUnder codec IsRoot image new) (λ image keeps. inl keeps))
+    (either_under codec old new (IsSameRoot ticked.0.carried.layout) IsRoot (λ layout is. root_behind ticked.1 layout is) (c.in_err-append.ensures.stops honest old new takes ticked.0))
 
 pub returns-in_err-append-clause-carries : goal.returns-in_err-append-clause-carries
 returns-in_err-append-clause-carries g c = λ honest whole old new takes same lent carries.
@@ -54,8 +62,10 @@ pub returns-clause-stops : goal.returns-clause-stops
 returns-clause-stops g c = λ honest old new takes same lent carries.
     let codec = worlds g.R.Rules.rules in
     let then = c.in_ok-append.ensures.honest honest in
-    joins (weaker (c.in_ok-full.ensures.stops then old carries) (λ image. Keeps codec image old ⊎ Keeps codec image new) (λ image keeps. inl keeps))
-    (c.in_ok-append.ensures.stops honest old new takes (c.in_ok-full.ensures.carries then c.in_ok-full.ensures.broken old lent carries))
+    let IsRoot : Layout codec → Type 0 = IsRootAt (ticks_left c.args.self.now) carries.carried.layout carries.carried.holding in
+    let ticked = c.in_ok-full.ensures.roots c.in_ok-full.ensures.broken then old lent carries in
+    joins (weaker (c.in_ok-full.ensures.stops then old carries) (λ image. KeepsUnder codec IsRoot image old ⊎ KeepsUnder codec IsRoot image new) (λ image keeps. inl keeps))
+    (either_under codec old new (IsSameRoot ticked.0.carried.layout) IsRoot (λ layout is. root_behind ticked.1 layout is) (c.in_ok-append.ensures.stops honest old new takes ticked.0))
 
 pub returns-clause-carries : goal.returns-clause-carries
 returns-clause-carries g c = λ honest whole old new takes same lent carries.

@@ -1,7 +1,10 @@
-use Rattle.std.proofs.Common.{◌∙◌, refl, sym, arith}
+use Rattle.std.proofs.Common.{◌∙◌, inl, refl, sym, arith}
 use Rattle.rr_disk.proofs.MomentLemmas.{started}
-use Rattle.rr_images.specs.Layout.{Keeps}
-use Rattle.rr_log.proofs.Carried.{is_want, kept_now}
+use Rattle.rr_checkpoint.specs.Calls.{IsRootAt}
+use Rattle.rr_images.specs.Layout.{KeepsUnder, Layout}
+use Rattle.rr_images.proofs.Ticks.{still_root}
+use Rattle.rr_log.specs.Log.{ticks_left}
+use Rattle.rr_log.proofs.Carried.{is_want, kept_under}
 use Rattle.rr_log.proofs.Growing.{pages_resting, stays_long}
 use Rattle.rr_log.proofs.Roots.{no_step}
 use Rattle.rr_log.specs.Calls.{tables_due}
@@ -15,7 +18,9 @@ returns-then-ticks_left-gt0-clause-carries g c = λ honest whole world lent carr
 pub returns-then-not-is_due-clause-stops : goal.returns-then-not-is_due-clause-stops
 returns-then-not-is_due-clause-stops g c = λ honest world carries.
     let log = c.args.self.now in
-    started (g.D.Disk.past log.disk) (g.D.Disk.state log.disk) (λ image. Keeps (worlds g.R.Rules.rules) image world) (kept_now g.R.Rules.rules log (g.D.Disk.state log.disk) world carries)
+    let IsRoot : Layout (worlds g.R.Rules.rules) → Type 0 = IsRootAt (ticks_left log) carries.carried.layout carries.carried.holding in
+    started (g.D.Disk.past log.disk) (g.D.Disk.state log.disk) (λ image. KeepsUnder (worlds g.R.Rules.rules) IsRoot image world)
+    (kept_under g.R.Rules.rules log (g.D.Disk.state log.disk) world carries IsRoot (inl (still_root carries.carried.layout)))
 
 pub returns-then-not-is_due-clause-renewed : goal.returns-then-not-is_due-clause-renewed
 returns-then-not-is_due-clause-renewed g c = λ whole one honest world carries. absurd (omega (arith, one, c.ticks_left.ensures, c.if-ticks_left-gt0.false))
