@@ -1,5 +1,5 @@
 -- What the faults of a recovery mean.
-use Rattle.std.specs.Prelude.{◌≡◌, ℕ, Result, Err, Option, None, Some}
+use Rattle.std.specs.Prelude.{◌≡◌, ℕ, Result, Option, None, Some}
 use Rattle.rr_disk.specs.Faults.{CountsFaultBy, OnFaultBy}
 use Rattle.rr_disk.specs.declared.fault.Fault.{Fault as OfDisk}
 use Rattle.rr_pages.specs.declared.fault.Fault.{Fault as OfPages}
@@ -29,13 +29,6 @@ CountsFault old new result = CountsFaultBy of_disk old new result
 -- where a call failed by the disk, so
 abbrev pub OnDeviceFault : {T : Type 0} → Result T Fault → Type 0 → Type 0
 OnDeviceFault result P = OnFaultBy of_disk result P
-
--- the same of a fault alone
-abbrev pub CountsTold : ℕ → ℕ → Fault → Type 0
-CountsTold old new fault = CountsFault {T = Unit {0}} old new (Err fault)
-
-abbrev pub WhereDeviceTold : Fault → Type 0 → Type 0
-WhereDeviceTold fault P = OnDeviceFault {T = Unit {0}} (Err fault) P
 
 -- the device failed
 abbrev pub IsOfDevice : Fault → Type 0
