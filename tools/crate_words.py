@@ -4,6 +4,10 @@ import hashlib
 import re
 from pathlib import Path
 
+from rattle_source import without_bodies
+
+# The parts of a crate that a check reads.
+CHECKED = ("src", "specs", "proofs")
 # What is read of a file, by its ending: words and signs one by one, so that layout counts for nothing. What is 'passed'
 # counts for nothing either: comments and imports, but not those that stand within a literal.
 READ = {
@@ -32,12 +36,25 @@ def said(file, text):
     return tuple(it.group() for it in form.finditer(text) if it.lastgroup != "passed") if form else (text,)
 
 
+def stated(file, text):
+    """What a file says that another crate can rest on: definitions, and sources without the bodies of their functions."""
+    part = part_of(file)
+    if part == "specs":
+        return said(file, text)
+    return said(file, without_bodies(file, text)) if part == "src" else ()
+
+
+def checked(file, text):
+    """What a file says that a check of its crate reads."""
+    return said(file, text) if part_of(file) in CHECKED else ()
+
+
 def part_of(file):
     """The part of a crate in which a file lies, by its path within the crate: `src`, or the file's own name."""
     return Path(file).parts[0]
 
 
-def sum_of(files):
+def sum_of(files, words=said):
     """A sum of what a crate says, of its files' paths within it and their texts. It doesn't tell which file says what."""
-    counts = collections.Counter((part_of(file), said(file, text)) for file, text in files)
+    counts = collections.Counter((part_of(file), words(file, text)) for file, text in files)
     return hashlib.sha256(repr(sorted((it, count) for it, count in counts.items() if it[1])).encode()).hexdigest()[:12]

@@ -36,6 +36,12 @@ def find():
     sys.exit("tools/rt: the command rt of the Rattle kit is not on the PATH")
 
 
+def name():
+    """Returns the kit's short name, as `13b` of rattle-kit-13b."""
+    with open(os.path.join(os.path.dirname(os.path.dirname(find())), "KIT-ID"), encoding="utf-8") as it:
+        return it.read().split()[0].removeprefix("rattle-kit-")
+
+
 def read(path):
     """Returns the kit's rt as a module, as it is."""
     loader = importlib.machinery.SourceFileLoader("rt_of_the_kit", path)
