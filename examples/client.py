@@ -4,9 +4,9 @@
 usage: client.py PROGRAM FILE
 
 FILE is a new store that `moderate format` made. The client opens a table for three players, lets each buy a private
-company, and prints what everybody has then. It shows what a program that plays by lines needs: one line out, one line
-back; the stamp of the last `ok`, taken anew where it was stale; and, where the reply is lost, how the line is sent
-once more but taken once.
+company, and prints what everybody has then. It shows what a program that sends lines needs: one line out, one line
+back; a command sent only with the stamp that its table has; and a command whose reply was lost, which is neither
+forgotten nor played twice.
 """
 import subprocess
 import sys
@@ -17,15 +17,19 @@ NO_SUCH_TABLE = 68
 
 
 class Refused(Exception):
-    """A line that was refused: the reply's words behind `no`, and the number that begins them."""
+    """A refused line: the words of the reply after `no`, and the number that begins them."""
 
     def __init__(self, words):
         super().__init__(words)
         self.number = int(words.split(" ")[0])
 
 
+class Unclear(Exception):
+    """Nobody can say whether a command was taken: its table has been played on by others, or a copy was put back."""
+
+
 class Moderator:
-    """A running `moderate serve`, and the stamps of the tables that were played through it."""
+    """A running `moderate serve`, and for each table the stamp that it had when this client last looked or played."""
 
     def __init__(self, program, file):
         self.command = [program, "serve", file]
@@ -33,14 +37,15 @@ class Moderator:
         self.start()
 
     def start(self):
-        """Serves the file. Where that is refused, the refusal is the only reply, and `tables` meets it."""
+        """Serves the file. If that is refused, the refusal is the only reply, and `tables` meets it."""
         self.serving = subprocess.Popen(self.command, stdin=subprocess.PIPE, stdout=subprocess.PIPE, text=True)
         self.ask("tables")
 
     def line(self, words):
-        """Sends one line and gives its reply, which comes before the next line need be sent.
+        """Sends one line and returns its reply, which comes before the next line need be sent.
 
-        Words with a line feed would be two lines with two replies: they are a ValueError, and nothing is sent.
+        Words with a line feed would be two lines with two replies: they are a ValueError, and nothing is sent. An
+        EOFError means that the program has ended, and that the line may have been taken.
         """
         if "\n" in words:
             raise ValueError(f"more than one line: {words!r}")
@@ -53,14 +58,14 @@ class Moderator:
         return reply.rstrip("\n")
 
     def ask(self, query):
-        """The answer to a query, as a list of words; `-` stands for none."""
+        """Returns the words of the answer to a query, none for `-`."""
         kind, _, answer = self.line(query).partition(" ")
         if kind != "=":
             raise Refused(answer)
         return [] if answer == "-" else answer.split(" ")
 
     def stamp(self, table):
-        """The table's stamp, 0 where there is no such table: the one that `open` bears."""
+        """Returns the table's stamp, 0 if there is no such table: an `open` bears that one."""
         try:
             return int(self.ask(f"stamp {table}")[0])
         except Refused as refusal:
@@ -69,36 +74,45 @@ class Moderator:
             return 0
 
     def play(self, table, words):
-        """Plays a command. Gives the words behind the new stamp: the revenue of a `run`, and the sheet of a `best`.
+        """Plays a command. Returns the words after the new stamp: the revenue of a `run`, and the sheet of a `best`.
 
-        Where the stamp was stale, something was played at the table that this client didn't see. The stamp is taken
-        anew then, and the refusal is raised all the same: look at the table, and play the command again if it still
-        holds.
+        It is meant for the table as this client knows it. If the table has another stamp, something was played that
+        the client didn't see: nothing is sent, and the command is refused as stale. The stamp is noted, so look at
+        the table, and play the command again if it still holds. So a line that is sent always bears its table's stamp,
+        on which `play_again` rests.
         """
-        if table not in self.stamps:
-            self.stamps[table] = self.stamp(table)
-        kind, _, answer = self.line(f"{self.stamps[table]} {table} {words}").partition(" ")
+        now = self.stamp(table)
+        if self.stamps.setdefault(table, now) != now:
+            self.stamps[table] = now
+            raise Refused(f"{STALE_STAMP} stale stamp {now}")
+        kind, _, answer = self.line(f"{now} {table} {words}").partition(" ")
         if kind != "ok":
-            refusal = Refused(answer)
-            if refusal.number == STALE_STAMP:
-                self.stamps[table] = int(answer.split(" ")[-1])
-            raise refusal
+            raise Refused(answer)
         _, stamp, *more = answer.split(" ")
         self.stamps[table] = int(stamp)
         return more
 
     def play_again(self, table, words, stamp):
-        """Where `play` met an EOFError or a 60: serves the file again, and plays the command if it wasn't taken.
+        """Plays a command if it wasn't taken when `play` met an EOFError or a 60, which left that open.
 
-        It was sent with this stamp. Who may be killed writes table, stamp and words to the disk before he sends them, and
-        asks so in a new Moderator. Where it was taken, nobody tells the words of its reply any more.
+        The file is served again first. `stamp` is the table's stamp from right before the command was played. A program
+        that may be killed asks for it, writes table, stamp and words to the disk, and only then plays; when it is started
+        anew and finds no reply beside them, it calls this.
+
+        The command was taken if the table has exactly one more now; the words of its reply are lost then. It wasn't if
+        the table has the same stamp. Any other stamp is Unclear, and nothing is played.
         """
         self.close()
         self.start()
-        self.stamps[table] = self.stamp(table)
-        return self.play(table, words) if self.stamps[table] == stamp else []
+        now = self.stamps[table] = self.stamp(table)
+        if now == stamp:
+            return self.play(table, words)
+        if now != stamp + 1:
+            raise Unclear(f"{table} has the stamp {now}, and had {stamp}: {words}")
+        return []
 
     def close(self):
+        """Ends the program, and returns its status."""
         with suppress(BrokenPipeError):
             self.serving.stdin.close()
         self.serving.stdout.close()
@@ -110,10 +124,11 @@ def main(program, file):
     players = ["ann", "bob", "cat"]
     moderator.play("t1", "open " + " ".join(players))
     for player in players:
+        stamp = moderator.stamp("t1")
         try:
             moderator.play("t1", f"buy {player}")
         except EOFError:
-            moderator.play_again("t1", f"buy {player}", moderator.stamps["t1"])
+            moderator.play_again("t1", f"buy {player}", stamp)
     try:
         moderator.play("t1", "buy bob")
     except Refused as refusal:

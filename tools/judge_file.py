@@ -1,4 +1,4 @@
-"""What `moderate check` owes to a file, judged by docs/FORMATS.md and docs/PLAYING.md ("Damage") without the program.
+"""What `moderate check` owes to a file, judged by docs/FORMATS.md and docs/OPERATING.md ("Damage") without the program.
 
 Of the rules it knows an auction in which the first player buys the first private and then all pass in turn, for which there is
 no end, and the take-back of its turns: each command but the opening is one. Of a snapshot it knows whether its bytes are a
