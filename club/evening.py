@@ -1,0 +1,286 @@
+"""The prompt of an evening: it fills in stamps and tables, logs lines and replies, and explains what is refused."""
+from __future__ import annotations
+
+import os
+import re
+import select
+import subprocess
+import sys
+import tempfile
+from collections.abc import Iterator, Sequence
+from contextlib import suppress
+from pathlib import Path
+
+from club.client import Ended, Program, Refused
+from club.kept import Kept, read_kept, turns_of
+from club.kit import CORPORATIONS, Hex
+from club.layout import Layout
+from club.links import Hexside, Node, hexes_of, links_of, routes_through
+from club.refusals import COMMANDS, QUERIES, choices, explain
+
+VERBS = {it[0] for it in COMMANDS}
+QUERY_LENGTHS = {it[0]: len(it) for it in QUERIES}
+PAGE = Path(__file__).with_name("page")
+QUOTED = re.compile(r"^[> \t]+| {2,}(?:ok|no|=) .*")  # what a mail puts before a line, and this prompt after it
+PASTE_SECONDS = 0.1  # for a terminal to hand over the next line of a paste
+SHOWN_LENGTH = 100  # of a line: the proof of a best run goes on for thousands
+HELP = """\
+Type what is played, as `buy ann`, or a query, as `cash ann`: stamp and table are filled in. Or paste an evening.
+  who              what everybody has, who is due, and what can be played
+  board, board B3  what lies on the hexes, or on some, with the numbers of the links (`links` is the same)
+  best, best PRR   plays a best run; `run PRR 2=B3-B5 3=-` plays one by the names of hexes, `-` for a train that stays
+  undo             takes the last turn back, after showing it
+  rest, rest off   sends the lines of a paste that a refusal stopped, or forgets them
+  table g2         goes on with table g2; `g2 open ann bob` opens it
+  quit             ends, as Ctrl-D does; Ctrl-C breaks a search off"""
+
+
+class Mistake(Exception):
+    """Why a line isn't sent, or isn't taken."""
+
+
+class Evening:
+    """An evening at the tables of a file, which nobody else may serve meanwhile.
+
+    The log has rows: the table's stamp, the line that was sent then, and the reply, which lacks if the program ended.
+    """
+
+    def __init__(self, file: Path, program: Program) -> None:
+        self.file, self.program = file, program
+        self.log = file.with_suffix(".log").open("a+", encoding="utf-8", errors="replace")
+        self.table = "".join(program.ask("tables")[-1:])
+        self.under_way: list[str] = []  # the line that is being taken, until it is known whether it was
+        self.rest: list[str] = []
+        self.own = {"who": self.who, "board": self.board, "links": self.board, "undo": self.undo, "rest": self.send_rest,
+                    "table": self.choose, "help": lambda _: print(HELP)}
+        self.settle()
+
+    def note(self, text: str) -> None:
+        """Adds to the log, also on the disk."""
+        self.log.write(text)
+        self.log.flush()
+        os.fsync(self.log.fileno())
+
+    def recover(self) -> None:
+        """Serves the file again, after the program ended or to end what it does."""
+        self.program.stop()
+        self.program.serve()
+        self.settle()
+
+    def settle(self) -> None:
+        """Finds out by the stamps whether a command without a reply was taken, and puts a line that wasn't before the rest.
+
+        A row of the log that breaks off within its line was never sent.
+        """
+        self.log.seek(0)
+        before, *sent = self.log.read().rpartition("\n")[2].split("\t")
+        if len(sent) == 2:
+            table, is_taken = sent[0].split(" ")[1], self.program.has_taken(sent[0], int(before))
+            self.table, self.under_way = (table, []) if is_taken else (self.table, sent[:1])
+            self.note(f"ok {table} {int(before) + 1}\n" if is_taken else "not taken\n")
+            print(f"There was no reply to `{sent[0][:SHOWN_LENGTH]}`: it was {'' if is_taken else 'not '}taken.")
+        elif before:
+            self.note("\n")
+        self.rest, self.under_way = [*self.under_way, *self.rest], []
+
+    def run(self) -> bool:
+        """Takes lines from a terminal until its input ends."""
+        print("`help` lists what can be typed.")
+        while True:
+            try:
+                if (text := input(self.prompt())).strip() == "quit":
+                    return True
+                self.take_all(text.split("\n"))
+            except EOFError:
+                return True
+            except (KeyboardInterrupt, Ended):
+                print()
+                self.recover()
+
+    def prompt(self) -> str:
+        """The table with its stamp and who is due, and how many lines of a paste are left."""
+        left = f" ({len(self.rest)} left)" if self.rest else ""
+        return f"{self.table} {self.ask('stamp')[0]} {' '.join(self.ask('due'))}{left}> " if self.table else "no table yet> "
+
+    def take_all(self, lines: Sequence[str]) -> bool:
+        """Takes lines up to the first that is refused, and returns whether all were taken."""
+        for place, line in enumerate(lines, 1):
+            self.under_way = [line]
+            try:
+                self.take(QUOTED.sub("", line).split())
+            except (Mistake, Refused, Ended, KeyboardInterrupt) as why:
+                print(f"  {str(why) or 'Broken off.'}")
+                self.rest = [it for it in [*lines[place:], *pasted()] if it.strip()] or self.rest
+                if isinstance(why, (Mistake, Refused)):
+                    self.under_way = []
+                else:
+                    self.recover()
+                if self.rest:
+                    print(f"Lines to send: {len(self.rest)}. Once this is put right, `rest` sends them.")
+                return False
+            self.under_way = []
+        return True
+
+    def take(self, words: list[str]) -> None:
+        """Takes one line. Raises Mistake if it is refused."""
+        if not words or words[0].startswith("#"):
+            return
+        if words[0] in self.own:
+            return self.own[words[0]](words[1:])
+        line = self.filled(words)
+        if line[0].isdigit() and line.count(" ") > 1:
+            return self.play(line)
+        reply = self.program.line(line)
+        print(f"{line[:SHOWN_LENGTH]:<30} {reply}")
+        if reply.number:
+            raise Mistake(explain(line, reply, self.program.ask))
+
+    def filled(self, words: list[str]) -> str:
+        """The line to send: with its table, a command with its stamp, and a sheet with the numbers of links."""
+        if words == ["best"]:
+            words = ["best", self.ask("due")[0]]
+        if words[0] in VERBS:
+            words = [self.chosen(), *words]
+        elif len(words) == QUERY_LENGTHS.get(words[0], 0) - 1:
+            words = [words[0], self.chosen(), *words[1:]]
+        if len(words) > 1 and words[1] in VERBS and not words[0].isdigit():
+            words = [str(self.program.stamp(words[0])), *words]
+        if words[2:3] == ["run"]:
+            words[4:] = [self.numbered(words[1], it) for it in words[4:]]
+        return " ".join(words)
+
+    def numbered(self, table: str, word: str) -> str:
+        """A word of a sheet, with the numbers of links for the names of hexes."""
+        kind, _, way = word.partition("=")
+        hexes = way.upper().split("-")
+        if all(it.isdigit() or not it for it in hexes):
+            return word
+        routes = [f"{kind}={'-'.join(map(str, it))}" for it in routes_through(links_of(self.layout(table)), hexes)]
+        if len(routes) == 1:
+            return routes[0]
+        raise Mistake(f"{way} has several routes; write one of: {', '.join(routes)}." if routes
+                      else f"No way leads so from a centre to a centre: see `links {' '.join(hexes)}`.")
+
+    def play(self, command: str) -> None:
+        """Sends a command, and shows what comes of it. Raises Mistake if it is refused."""
+        _, table, verb, *_ = command.split(" ")
+        turns = self.program.line(f"turns {table}")
+        self.note(f"{self.program.stamp(table)}\t{command}\t")
+        reply = self.program.line(command)
+        self.note(f"{reply}\n")
+        self.under_way = []
+        self.table = self.table if reply.number and turns.number else table  # a paste goes on with it, also if this is refused
+        print(f"{command[:SHOWN_LENGTH]:<30} {reply}")
+        if reply.number:
+            raise Mistake(explain(command, reply, self.program.ask))
+        if verb in ("run", "best"):
+            self.show_run()
+        if self.program.line(f"turns {table}") != turns:
+            write_page(self.file, table)
+
+    def show_run(self) -> None:
+        """The routes of the run that was taken last, by the names of their hexes."""
+        links = links_of(self.layout(self.table))
+        for kind, is_train, way in (it.partition("=") for it in self.kept().tables[self.table][-1].split(" ")):
+            if is_train:
+                print(f"  train {kind}:", "-".join(hexes_of(links, [int(it) for it in way.split("-")])) if way != "-" else "stays")
+
+    def chosen(self) -> str:
+        """The table that is played on."""
+        if not self.table:
+            raise Mistake("There is no table yet: `g1 open ann bob` opens one.")
+        return self.table
+
+    def ask(self, query: str, *words: str) -> list[str]:
+        """The answer to a query about the table."""
+        return self.program.ask(" ".join((query, self.chosen(), *words)))
+
+    def kept(self) -> Kept:
+        """What the file keeps. It is read between two replies, so it is of one moment."""
+        return read_kept(self.file.read_bytes())
+
+    def layout(self, table: str) -> Layout:
+        return self.kept().layout(table, self.program.ask(f"due {table}")[0])
+
+    def who(self, _: Sequence[str]) -> None:
+        """What everybody has, who is due, and the lines that the step takes."""
+        for player in self.kept().tables[self.chosen()][0].split(" ")[1:]:
+            shares = [f"{it} {held[0]}%" for it in CORPORATIONS if (held := self.ask("holds", player, it)) != ["0"]]
+            self.show_owner(player, "worth", [*self.ask("privates", player), *shares])
+        for name in self.ask("order"):
+            self.show_owner(name, "price", [*(f"train {it}" for it in self.ask("trains", name)), *self.ask("privates", name)])
+        print(f"{self.table}: {self.ask('turns')[0]} turns, phase {self.ask('phase')[0]}, bank {self.ask('cash', 'bank')[0]}")
+        print(f"{' '.join(self.ask('due'))}: {', '.join(choices(self.ask('due')))}")
+
+    def show_owner(self, name: str, query: str, owned: Sequence[str]) -> None:
+        """A line about a player or a corporation, with the answer to one more query."""
+        print(f"{name:<13} cash {self.ask('cash', name)[0]:>5}  {query} {self.ask(query, name)[0]:>5}  {', '.join(owned)}".rstrip())
+
+    def board(self, names: Sequence[str]) -> None:
+        """What lies on hexes, and the numbers of the links there with what each one joins."""
+        layout, names = self.layout(self.chosen()), [it.upper() for it in names]
+        if strangers := set(names) - set(layout.kit.board.hexes):
+            raise Mistake(f"The board has no hex {', '.join(sorted(strangers))}.")
+        links = links_of(layout)
+        for on in layout.kit.board.hexes.values():
+            lay = layout.last_lay(on.name)
+            joined = [f"{it.number}: {'-'.join(end_names(layout, on, it.ends))}" for it in links if it.hex == on.name]
+            tokens = [f"{it.corporation} on city {it.centre}" for it in layout.tokens if it.hex == on.name]
+            if on.name in names or (not names and (joined or tokens)):
+                tile = f"tile {lay.tile} turned {lay.turn}" if lay else layout.colour(on).value
+                print(f"{on.name:<5} {tile:<17} {', '.join([*joined, *tokens])}".rstrip())
+
+    def undo(self, _: Sequence[str]) -> None:
+        """Takes back what was played since the last turn ended, or else that turn, if the person says so."""
+        target = int(self.ask("turns")[0])
+        turns = turns_of(self.kept().tables[self.table])
+        going = sum(turns[target + 1:], [])
+        if not going:
+            going, target = turns[target], target - 1
+        if target < 0:
+            raise Mistake("Nothing was played yet.")
+        print("This goes:", *going, sep="\n  ")
+        if not sys.stdin.isatty() or input("Take it back? [y/n] ").strip() not in ("y", "yes"):
+            raise Mistake("Nothing was taken back.")
+        self.take(["back", str(target)])
+
+    def send_rest(self, words: Sequence[str]) -> None:
+        """Sends the lines of a paste that are left, or forgets them."""
+        lines, self.rest = self.rest, []
+        self.take_all(lines if words != ["off"] else [])
+
+    def choose(self, words: Sequence[str]) -> None:
+        """Goes on with another table."""
+        tables = self.program.ask("tables")
+        if len(words) != 1 or words[0] not in tables:
+            raise Mistake(f"The tables are: {', '.join(tables) or 'none yet'}.")
+        self.table = words[0]
+
+
+def end_names(layout: Layout, on: Hex, ends: Sequence[Node]) -> Iterator[str]:
+    """The ends of a link on a hex: the name of the hex across, or the kind of centre with its number."""
+    for end in ends:
+        if isinstance(end, Hexside):
+            across = layout.kit.board.at(end.place.across(end.edge) if end.place == on.place else end.place)
+            yield across.name if across else "edge"
+        else:
+            kind = layout.face(on).centres[end.centre - 1].kind.name.lower().replace("_", "-")
+            yield f"{kind} {end.centre}"
+
+
+def pasted() -> list[str]:
+    """The lines of a paste that the terminal hasn't handed over yet."""
+    lines: list[str] = []
+    with suppress(EOFError):
+        while sys.stdin.isatty() and select.select([sys.stdin], [], [], PASTE_SECONDS)[0]:
+            lines += input().split("\n")
+    return lines
+
+
+def write_page(file: Path, table: str) -> None:
+    """Writes the page of a table beside the file, from a copy of it; nothing if there is no club/page."""
+    if PAGE.exists():
+        with tempfile.NamedTemporaryFile(suffix=".store") as copy:
+            copy.write(file.read_bytes())
+            copy.flush()
+            subprocess.run([sys.executable, str(PAGE), table, "--file", copy.name, "-o", str(file.parent)], check=False)
