@@ -34,7 +34,7 @@ def new_row(judged, commit, kit, before):
     edits were judged earlier, its seconds do: those of the last run that judged all."""
     same = before is not None and before.said == judged.said
     kits = " ".join(sorted({kit, *(before.kits.split() if same else [])}))
-    seconds = before.seconds if judged.kept and before else f"{judged.seconds:.0f}"
+    seconds = (before.seconds if before else "") if judged.kept else f"{judged.seconds:.0f}"
     return Row(judged.crate, time.strftime("%Y-%m-%d"), commit, str(judged.edits), str(judged.refused), seconds, kits, judged.said)
 
 

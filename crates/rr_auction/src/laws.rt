@@ -45,13 +45,14 @@ pub fn first_price_falls_by_passes()
     ensures { FirstPriceFallsByPasses }
 {}
 
-/// A pass brings the incomes exactly where all players pass in a row with it while another private than the first is
+/// A pass brings the incomes exactly if all players then have passed in a row while another private than the first is
 /// for sale.
 pub fn incomes_come_by_passes()
     ensures { IncomesComeByPasses }
 {}
 
-/// Where several bid on the private for sale, who raises or leaves is the nearest bidder on the left of the highest.
+/// If several bid on the private for sale, the one who raises or leaves is the nearest bidder on the left of the
+/// highest.
 pub fn raisers_sit_left_of_the_highest()
     ensures { RaisersSitLeftOfTheHighest }
 {}
@@ -67,7 +68,7 @@ pub fn par_is_owed_by_the_buyer()
     ensures { ParIsOwedByTheBuyer }
 {}
 
-/// The turns are the purchases, bids and passes, but for the last of them while a par is owed.
+/// The turns are the purchases, bids and passes, except the last of them while a par is owed.
 pub fn turns_are_counted()
     ensures { TurnsAreCounted }
 {}

@@ -1,6 +1,7 @@
 //! The auction of the privates, with which a game begins.
 //!
-//! Stands on `rr_desk`. Its promise: `judge` is exactly the verdict over the book, `play` exactly the entries.
+//! Stands on `rr_desk`. Its promise: `judge` answers exactly the verdict over the book, and `play` adds exactly the
+//! entries, settling and the auction's end included.
 #![tactic(auto)]
 
 mod due;

@@ -1,7 +1,7 @@
 //! The books of a table: a list of entries, oldest first, and the running balances and places that stand for it.
 //!
-//! Stands on `rr_words` and `rr_roster`. Its promise: `IsStateOf`, the running tables are those of the list of
-//! entries, whatever list it is.
+//! Stands on `rr_words` and `rr_roster`. Its promise: balances and places are those of any list of entries
+//! (`IsStateOf`, `Extends`). Payments among a table's parties keep the sum.
 #![tactic(auto)]
 
 mod acts;

@@ -1,7 +1,7 @@
-//! Judges certificates: whether a tree of cases shows that no run of a net earns more than is claimed. What it tells of
-//! the parts of a route serves the judge of sheets too.
+//! Judges certificates: whether a tree of cases shows that no run of a net earns more than is claimed. The judge of
+//! sheets uses its parts too.
 //!
-//! Stands on `rr_routes`. Its promise: `check` is true exactly where the certificate is accepted.
+//! Stands on `rr_routes`. Its promise: `check` is true exactly if the certificate is accepted for the claim.
 #![tactic(auto)]
 
 mod centres;

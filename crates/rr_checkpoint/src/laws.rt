@@ -2,8 +2,8 @@
 //! ensures.
 ghost use Rattle.rr_checkpoint.specs.Laws as laws;
 
-/// Where the snapshots that stand and those that are wanted both rise by table and count, going through them side by
-/// side finds each one that stands: it stays, and only the others are laid. Those of a transcript rise always.
+/// If the snapshots of the file and the required ones both rise by table and count, one pass over both lists finds each
+/// one that is there already. It stays, and only the others are laid. Those of a transcript always rise.
 pub fn standing_snapshots_are_found()
     ensures rise { laws.TranscriptsRise }
     ensures found { laws.FindsAll }

@@ -1,8 +1,8 @@
-//! The command line of the program `moderate`: what its words ask for, and with which status it
-//! ends.
+//! The command line of the program `moderate`: what its words ask for, and with which status it ends.
 //!
-//! Stands on `rr_moderator` and `clap`. Its promise: `act` does what `plan` read, and ends with the status of how it
-//! ended (`Acts`).
+//! Stands on `rr_moderator` and `clap`. Its promise: a plan is what clap matches in words that it accepts (`IsPlanOf`);
+//! that accepted words are planned isn't said. `act` does what the plan asks, and ends with the status of how it ended
+//! (`Acts`).
 #![tactic(auto)]
 
 mod acting;

@@ -1,7 +1,8 @@
 //! The lines that the moderator reads: one spelling for each request and each query.
 //!
 //! Stands on `rr_words`, `rr_roster`, `rr_turns` and `rr_orders`. Its promise: `Line::read` and `read_record` read
-//! exactly what is spelled, one text a line (`laws::one_spelling`).
+//! exactly what is spelled, else the line is malformed. A command has one text, and a text one command
+//! (`laws::one_spelling`, `laws::one_meaning`).
 #![tactic(auto)]
 
 mod auction;

@@ -1,8 +1,9 @@
-//! The disk as a store sees it, with what a stop may leave of it, and three disks: one in memory, one that
-//! fails where it is told to, and a file.
+//! The disk as a store sees it, with what a stop may leave of it, and three disks: one in memory, one that fails on
+//! demand, and a file.
 //!
-//! Stands on std alone. Its promise: the trait `Disk`, whose clauses say what each call does to the state, and so what
-//! a stop may leave.
+//! Stands on std alone. Its promise: the trait `Disk` says what each call does to the disk's state, and so what a crash
+//! may leave (`IsImage`). A failed call counts one fault (up to 2^64 - 1), any other none. The disks in memory keep
+//! this; of a real file it is trusted.
 #![tactic(auto)]
 
 mod bytes;

@@ -1,7 +1,13 @@
 //! The game of one table, by the names of its players; and a table that can be taken back (`history`).
 //!
-//! Stands on `rr_rules`, the kit and `rr_code`. Its promise: `Game::step` is refused exactly by `command_judgement`,
-//! and keeps `IsGameOf`.
+//! Stands on `rr_rules`, the kit and `rr_code`. Its promises:
+//!
+//! - `Game::step` is refused exactly by `command_judgement`, except that 70 may come after the checks that allocate
+//!   nothing, and keeps `IsGameOf`. Each query is its definition over the book.
+//! - A game made again of its plain values is that game. Bytes are those of at most one game's values.
+//! - `Table::step`, `take_back` and `forget` are refused exactly by `request_judgement`, apart from running out of
+//!   memory. From the nearest snapshot fewer than 64 commands lead to any turn to which a table with its snapshots can
+//!   go back, and `CountsPlays` counts them exactly.
 #![tactic(auto)]
 
 mod acts;

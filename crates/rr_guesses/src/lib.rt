@@ -1,7 +1,8 @@
-//! Guesses at the run that earns most, with a certificate that none earns more, given only where the judges of both
-//! accept them.
+//! Guesses at the run that earns most, with a certificate that none earns more. A guess is returned only if the judges
+//! of both accept it.
 //!
-//! Stands on `rr_referee`. Its promise: what `guess` gives `IsCertified`.
+//! Stands on `rr_referee`. Its promise: what `guess` returns is a legal sheet with an accepted certificate
+//! (`IsCertified`). That it finds one isn't proved.
 #![tactic(auto)]
 
 mod candidate;

@@ -43,8 +43,8 @@ pub fn files_read_the_same_keep_the_same<C: Codec>()
     ensures { laws.ReadTheSame C.codec }
 {}
 
-/// The first step of a checkpoint: the other half's slot 0 is shut, by a write only where it is open. Records go on
-/// there then. Where an opening found a checkpoint begun, that was done.
+/// The first step of a checkpoint closes the gate of the other half's slot 0, by a write only if it is open. From then
+/// on records go there. If an opening found a checkpoint begun, this was done.
 pub fn checkpoints_begin<C: Codec>()
     ensures begun { laws.CheckpointsBegin C.codec }
     ensures found { laws.BegunAreFound C.codec }
@@ -56,8 +56,8 @@ pub fn fresh_pages_are_written<C: Codec>()
     ensures { laws.PagesAreWritten C.codec }
 {}
 
-/// The stale root's gate is shut, by a write only where it is open; then the next root is written behind it; then the
-/// gate is opened, and that root is taken. Each with a sync.
+/// The stale root's gate is closed, by a write only if it is open; then the next root is written after it; then the
+/// gate is opened, and that root is current. A sync follows each.
 pub fn roots_change_places<C: Codec>()
     ensures shut { laws.StaleRootsAreShut C.codec }
     ensures filled { laws.RootsAreFilled C.codec }
@@ -67,7 +67,7 @@ pub fn roots_change_places<C: Codec>()
     ensures goes_on_flipped { laws.GoOnFlipped C.codec }
 {}
 
-/// A record is appended wherever a checkpoint is: a stop leaves the world from before it or the one behind it.
+/// A record is appended wherever a checkpoint is: a stop leaves the world from before it, or the one with it.
 pub fn records_are_appended<C: Codec>()
     ensures appended { laws.RecordsAreAppended C.codec }
     ensures kept { laws.PartsAreKept C.codec }

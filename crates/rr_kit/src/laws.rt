@@ -11,7 +11,7 @@ pub fn kits_are_told_apart()
     ensures { OneKit }
 {}
 
-/// Want of memory is told of no bytes that are no text, or too many: those have faults of their own.
+/// Bytes that are no text, or too many, are never answered with 'out of memory': they have faults of their own.
 pub fn memory_is_wanted_for_texts()
     ensures chart { (text : List ℕ) → RefusesChart text Fault.OutOfMemory → IsSmallAscii text }
     ensures roster { (text : List ℕ) → RefusesRoster text Fault.OutOfMemory → IsShortText text }

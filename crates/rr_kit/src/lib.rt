@@ -1,7 +1,7 @@
-//! What a table is played with: the kit that four texts spell. That of the board is read here (`board`).
+//! What a table is played with: the kit that four texts spell. The board's text is read here (`board`).
 //!
-//! Stands on `rr_roster` and `rr_tiles`. Its promise: `Kit::read` gives the kit that the texts spell
-//! (`SpellsKit`), or the first wrong text's fault (`RefusesKit`).
+//! Stands on `rr_roster` and `rr_tiles`. Its promise: `Kit::read` returns the kit that four texts spell (`SpellsKit`),
+//! or the fault of the first wrong one (`RefusesKit`). Texts spell one kit.
 #![tactic(auto)]
 
 pub mod board;

@@ -1,11 +1,11 @@
-//! The laws that every table is sound, whatever commands it accepted, that each run paid as best was best, that each
-//! dividend was shared by percents, that each command and each request has a verdict, that the phase is the greatest kind
-//! of which a train was ever sold, and that a game's bytes are few. Its modules have laws on the auction and on commands
-//! of stock rounds (`soundness`), and on corporations' turns (`turns`).
+//! Laws on whole games: every table is sound, each run paid as best was best, each dividend was shared by percentage,
+//! each command and each request has a verdict, the phase is the greatest kind of train ever sold, and a game's bytes
+//! are few. Its modules have laws on the auction and on commands of stock rounds (`soundness`), and on corporations'
+//! turns (`turns`).
 //!
-//! Stands on `rr_game`, the rules and `rr_referee`; nothing of the program stands on it. Its promises: `sound`,
+//! Stands on `rr_game`, the rules and `rr_referee`; nothing of the program stands on it. Its promise: the laws `sound`,
 //! `best_runs_were_best`, `dividends_were_right`, `each_command_has_a_verdict`, `each_request_has_a_verdict`,
-//! `phases_are_greatest_sold` and `games_are_short`.
+//! `phases_are_greatest_sold` and `games_are_short`, at the root.
 #![tactic(auto)]
 
 pub mod soundness;
@@ -20,10 +20,10 @@ ghost use Rattle.rr_laws.specs.SoldTrains.{PhasesAreGreatestSold};
 ghost use Rattle.rr_laws.specs.Sound.{KitsNameCorporations, PlaysGoOn, TablesStaySound};
 ghost use Rattle.rr_laws.specs.Verdicts.{EachCommandHasAVerdict, EachRequestHasAVerdict, NoRuleWantsMemory};
 
-/// Whatever two to six players open a table, with a kit whose roster names each corporation, and whatever commands it
-/// accepts then, bank, seats and corporations have together what the bank began with and only the bank may have less
-/// than nothing, each certificate has a place of the table, each 20% certificate is in the offering or with a player
-/// than whom no other has more of the corporation, and the pool has at most half of each.
+/// If two to six players open a table with a right kit, every book that lawful commands make is sound. Bank, seats and
+/// corporations have together what the bank began with, and only the bank may have less than nothing. Each certificate
+/// has a place of the table. Each 20% certificate is in the offering, or with a player than whom no other has more of
+/// the corporation. The pool has at most half of each. The kit need only name each corporation in its roster.
 pub fn sound()
     ensures { TablesStaySound }
 {
@@ -33,7 +33,7 @@ pub fn sound()
 }
 
 /// Whatever commands a table accepts, no run of a corporation's trains earns more than one paid as best, over the board
-/// as it lay then: a run that the book has as best, and so one whose command said so.
+/// as it lay then. That is a run that the book has as best, and so one whose command said so.
 pub fn best_runs_were_best()
     ensures entries { BestRunsWereBest }
     ensures commands { BestCommandsWereBest }
@@ -41,9 +41,9 @@ pub fn best_runs_were_best()
     rr_referee::laws::optimal();
 }
 
-/// With a right kit each run earns a multiple of ten, and so each dividend that a table ever paid was shared by percents:
-/// the bank lost just what seats and pool were due, and nobody was paid for the offering. What a corporation held back it
-/// got whole.
+/// With a right kit each dividend that a table paid shared the revenue by percentage: the bank lost just what seats and
+/// pool were due, and nobody was paid for the offering. For each revenue is a multiple of ten. What a corporation held
+/// back it got whole.
 pub fn dividends_were_right()
     ensures revenues { RevenuesAreInTens }
     ensures dividends { DividendsWereRight }
@@ -64,8 +64,8 @@ pub fn plays_go_on()
     ensures { PlaysGoOn }
 {}
 
-/// Each command has a verdict, whatever the kit, the players and the state of the table are, and only one: it is
-/// lawful, or it is refused with one fault, which is never want of memory. It can't be that it is neither.
+/// Each command has one verdict, whatever the table's kit, players and state are: it is lawful, or refused with one
+/// fault, which is never that memory ran out. It can't be that it is neither.
 pub fn each_command_has_a_verdict()
     ensures some { EachCommandHasAVerdict }
     ensures one { CommandsHaveOneVerdict }
@@ -74,8 +74,8 @@ pub fn each_command_has_a_verdict()
     rr_game::laws::commands_have_one_verdict();
 }
 
-/// So has each request to a table, a command with its stamp or one to go back or to forget, whatever the table keeps:
-/// it is taken, or it is refused with one fault. It can't be that it is neither.
+/// Each request to a table has a verdict, whatever the table keeps, be it a command with its stamp or one to go back or
+/// to forget: it is taken, or refused with one fault. It can't be that it is neither.
 pub fn each_request_has_a_verdict()
     ensures some { EachRequestHasAVerdict }
     ensures one { RequestsHaveOneVerdict }
@@ -83,14 +83,14 @@ pub fn each_request_has_a_verdict()
     rr_game::history::laws::requests_have_one_verdict();
 }
 
-/// Whatever commands a table is played with, the phase, which is told by where the trains are, is the greatest kind of
-/// which some entry of the book took a train out of the offering, or the 2 where no entry did.
+/// Whatever commands a table is played with, the phase, which follows from where the trains are, is the greatest kind
+/// of which some entry of the book took a train out of the offering, or 2 if no entry did.
 pub fn phases_are_greatest_sold()
     ensures { PhasesAreGreatestSold }
 {}
 
-/// A game's plain values, each of its form, take 1,412 to 7,223 bytes. What makes the difference is above all the room for
-/// 600 tiles and 48 tokens on the board.
+/// A game's plain values, each of its form, take 1,412 to 7,223 bytes. The difference is mostly room for 600 tiles and
+/// 48 tokens on the board.
 pub fn games_are_short()
     ensures most { GamesAreShort }
     ensures least { GamesAreNoShorter }

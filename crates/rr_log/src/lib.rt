@@ -1,11 +1,17 @@
-//! The file of a crash-safe store, over worlds in words. A new one is made (`formatting`), one that is there is opened
-//! (`opening`), and in one that is open (`Log`) records are kept and checkpoints made in ticks, of the tables that the
-//! caller lends in words. It knows no game and no command: which lines lead from world to world, its rules say.
+//! The file of a crash-safe store, over worlds in words: making a new one (`formatting`), opening one (`opening`), and
+//! in an open one (`Log`) keeping records and making checkpoints in ticks, of the tables that the caller lends in
+//! words. It knows no game and no command: its rules say which lines lead from world to world.
 //!
-//! Stands on `rr_checkpoint` and `rr_reading`. Its promises are the clauses `stops` and `carries` of `Log::keep`,
-//! `tick` and `checkpoint`: whatever a stop leaves at any moment keeps the world from before the record or the one
-//! behind it, and the log carries on what it knows, unless the device failed; those of `opening::open_file`: what is
-//! given is what the file holds; and of `formatting::format`, which leaves no store or the whole new file.
+//! Stands on `rr_checkpoint` and `rr_reading`. Its promises:
+//!
+//! - On an honest disk that carries its world, whatever a crash leaves of `Log::keep`, `Log::tick` and
+//!   `Log::checkpoint` keeps the world from before, or for a record the one with it. A record makes at most two writes
+//!   and two syncs, a tick one of each.
+//! - A file counts as full only if a checkpoint makes no room, or no number is left. A call that answers 60 counts one
+//!   fault, any other none; no 60 comes from such a disk while it works. A file grows only if no data page below its
+//!   new end is free (`Grows`).
+//! - `open_file` makes one sync, then only reads, and returns what the file holds. A file that stands for a world is
+//!   refused only with 60 or 70. `format` leaves the whole new file, or no store.
 #![tactic(auto)]
 
 mod fault;

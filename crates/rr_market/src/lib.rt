@@ -1,8 +1,9 @@
 //! The corporations' tokens on the stock chart: their prices and zones, how they move, and the operating order; and how
 //! far the operating rounds have come (`operations`).
 //!
-//! Stands on `rr_roster`, `rr_books` and `rr_rounds`. Its promise: `IsMarketOf`, kept by `follow` for any entry, and the
-//! moves of a token by the book.
+//! Stands on `rr_roster`, `rr_books` and `rr_rounds`. Its promise: moves, prices, zones, pars and the operating order
+//! are the book's, whatever entries follow (`IsMarketOf`); the order is strict. So are phase, set, round, the
+//! corporation due, its step, debts and bankruptcies (`IsOperationsOf`).
 #![tactic(auto)]
 
 mod arrivals;

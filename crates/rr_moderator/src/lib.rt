@@ -1,7 +1,11 @@
 //! The moderator: the reply to each line, over the store of the tables.
 //!
-//! Stands on `rr_store`, `rr_search` and `rr_serve`. Its promise: `answer`, `line` and `serve` give exactly the replies
-//! that `Answers` says, and lose nothing that was acknowledged (`Lasts`).
+//! Stands on `rr_store`, `rr_search` and `rr_serve`. Its promises:
+//!
+//! - `answer`, `line` and `serve` give exactly the replies that `Answers` allows, and lose nothing that was
+//!   acknowledged (`Lasts`), for a store whose games in memory are what their commands play.
+//! - All best runs earn the same, and no rule refuses one. `open` returns a right kit, and the tables for which the
+//!   file stands.
 #![tactic(auto)]
 
 mod answering;

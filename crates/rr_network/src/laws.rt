@@ -2,8 +2,8 @@
 ghost use Rattle.rr_network.specs.Facing.{FaceEachOther, IsTestOfHexsides, ShareHexsides};
 ghost use Rattle.rr_network.specs.Stops.{NothingLaidKeepsCentres, UpgradesKeepCentres};
 
-/// Two edges of hexes share a hexside exactly where they are one edge, or face each other across it: so the
-/// links of neighbours join at their common side, and nowhere else.
+/// Two edges of hexes share a hexside exactly if they are one edge, or face each other across it. So the links of
+/// neighbours join at their common side, and nowhere else.
 pub fn hexsides()
     ensures shared { ShareHexsides }
     ensures returned { FaceEachOther }

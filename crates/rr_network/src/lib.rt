@@ -1,7 +1,7 @@
 //! What was laid on a board, the links of the network that it makes, and what of it a corporation reaches.
 //!
-//! Stands on `rr_kit`, `rr_desk` and `rr_routes`. Its promise: `Network::of` and `Reach::of`, the network of what lies,
-//! and what a walk of a corporation ends at.
+//! Stands on `rr_kit`, `rr_desk` and `rr_routes`. Its promise: links, centres and tokens are those on the board
+//! (`Network::of`). What a corporation reaches is exactly what a walk ends at (`Reach::of`).
 #![tactic(auto)]
 
 mod key;

@@ -24,7 +24,7 @@ pub fn steps_are_kept()
     ensures { StepsAreKept }
 {}
 
-/// Trains over a limit are given up before anything else, and a wrong step is told before a wrong turn.
+/// Trains over a limit are given up before anything else, and a wrong step is reported before a wrong turn.
 pub fn worked_order()
     ensures { WorkedOrder }
 {}
@@ -35,7 +35,7 @@ pub fn worked_turn_end()
     ensures { WorkedTurnEnd }
 {}
 
-/// A run is its words, behind the certificate where there is one.
+/// A run is its words, after the certificate if there is one.
 pub fn worked_run()
     ensures { WorkedRun }
 {}

@@ -1,8 +1,9 @@
 //! A corporation's turn in an operating round: which commands a table's book takes, and what they add to it.
 //!
 //! Joins the rules of tiles and tokens (`rr_lay`), runs (`rr_running`), dividends (`dividends`) and trains
-//! (`rr_trains`), and what follows on a turn (`sets`). Its promise: `judge` is exactly `IsVerdict` over the book, want
-//! of memory apart, and `play` `Takes` exactly `entries_of`.
+//! (`rr_trains`), and what follows a turn by itself (`sets`). Its promise: `judge` answers exactly `IsVerdict` over the
+//! book, except that 70 may come after the checks that allocate nothing. `play` adds exactly `entries_of`, dividends
+//! and what follows a round included. What trains earned follows `revenue_after`.
 #![tactic(auto)]
 
 pub mod dividends;

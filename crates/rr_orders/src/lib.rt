@@ -1,8 +1,8 @@
 //! What is ordered in a corporation's turn of an operating round: one spelling for each order. A line is read word by
 //! word (`scan`).
 //!
-//! Stands on `rr_routes`, `rr_roster` and `rr_words`. Its promise: `Order::read` reads exactly what is spelled, one
-//! text an order (`laws::one_spelling`), and takes no memory.
+//! Stands on `rr_routes`, `rr_roster` and `rr_words`. Its promise: `Order::read` reads exactly what is spelled, else
+//! the line is malformed. An order has one text (`laws::one_spelling`).
 #![tactic(auto)]
 
 mod forced;

@@ -11,7 +11,7 @@ pub fn laid_pages_are_the_chain()
     ensures { laws.LaidAreChain }
 {}
 
-/// A root that stands behind a gate as it was spelled is that root.
+/// A root that stands after a gate as it was spelled is that root.
 pub fn spelled_roots_read_back()
     ensures { laws.RootsReadBack }
 {}
@@ -29,15 +29,14 @@ pub fn taken_pages_are_free()
     ensures { laws.TakenAreFree }
 {}
 
-/// A chain that stands on data pages not reached before is read whole, and one that is told broken isn't there.
+/// A chain that stands on data pages not reached before is read whole, and one that is reported broken isn't there.
 pub fn standing_chains_are_read()
     ensures whole { laws.StandingRead }
     ensures broken { laws.BrokenNone }
 {}
 
-/// The numbers of a file: a page has 4,096 bytes, and one of data 4,086 of its chain behind 10 that lead on; data
-/// begins on page 514, and a file has 515 to 65,536 pages; a root has 35 bytes behind its gate, and the byte A5 hex
-/// opens one.
+/// The numbers of a file: a page has 4,096 bytes, a data page 4,086 of its chain after a head of 10. Data begins on
+/// page 514, and a file has 515 to 65,536 pages. A root has 35 bytes after its gate, and the byte A5 hex opens a gate.
 pub fn sizes()
     ensures page { PAGE_BYTES ≡ 4096 }
     ensures link { LINK_BYTES ≡ 10 }

@@ -1,9 +1,13 @@
-//! What a store's file is made of: pages of 4,096 bytes, chains of them, which of them are free, two roots with gates,
-//! of which one is taken, and the two halves of its journal (`journal`). Numbers in the file are big-endian.
+//! What a store's file is made of: pages of 4,096 bytes, chains of pages, free pages, two roots with gates, and the two
+//! halves of the journal (`journal`). Numbers in the file are big-endian.
 //!
-//! Stands on `rr_disk`. Its promises: `chain_follow` and `take_root` tell exactly what the bytes have, or the first
-//! clause broken; and `journal::Half::append` leaves each image with the records from before, or with the new one
-//! whole.
+//! Stands on `rr_disk`. Its promises:
+//!
+//! - `chain_follow` and `take_root` return exactly what the bytes have, or the first broken clause. At most one root is
+//!   current. Writes make exactly their device calls, in order, and none after one that failed.
+//! - On an honest disk, during `Half::append` each image has the records from before, or those and the new one whole;
+//!   after success the latter. A half is refused as full exactly if its slots don't suffice, or the record is longer
+//!   than two.
 #![tactic(auto)]
 
 mod chain;

@@ -20,8 +20,8 @@ pub fn held_files_stand<C: Codec>()
     ensures stands { laws.HeldStands C.codec }
 {}
 
-/// A damaged file is refused, and so stands for nothing. Where the damage is the form of what a table's chain holds,
-/// that is so of codecs which spell nothing then.
+/// A damaged file is refused, and so stands for nothing. If the damage is the form of what a table's chain holds, this
+/// is so of codecs that spell nothing then.
 pub fn damaged_files_are_refused<C: Codec>()
     ensures bytes { laws.DamagedIsRefused C.codec }
     ensures all { laws.AllDamagedAreRefused C.codec }

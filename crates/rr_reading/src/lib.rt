@@ -1,9 +1,10 @@
-//! What an opening reads of a store's file before the rules judge it: the root that is taken, its directory (`dir`),
-//! the chains that this names, and the records of both halves; or the least clause of damage that the bytes alone
-//! decide. And the worlds that such files spell, in words (`worlds`); and chains that lend their bytes (`lending`).
+//! What an opening reads of a store's file before the rules judge it: the current root, its directory (`dir`), the
+//! chains that this names, and the records of both halves; or the least clause of damage that the bytes alone decide.
+//! Also the worlds that such files spell, in words (`worlds`), and chains that lend their bytes (`lending`).
 //!
-//! Stands on `rr_images` and `rr_pages`. Its promises: `read_file` gives both exactly, of every file; a directory is
-//! read as it was written; and so is a world, which a checkpoint needs of what it writes.
+//! Stands on `rr_images` and `rr_pages`. Its promise: `read_file` returns exactly what the file holds, or the least of
+//! clauses 1 to 5 that it breaks (`Reads`). A directory has one spelling. What a checkpoint writes is read back as the
+//! same world.
 #![tactic(auto)]
 
 mod chains;

@@ -9,8 +9,8 @@ ghost use Rattle.rr_referee.specs.Revenue.{revenue_of};
 ghost use Rattle.rr_referee.specs.Sheets.{Breaks, IsLegal, IsSheetOf};
 ghost use Rattle.rr_books.specs.declared.clause.Clause.{Clause};
 
-/// Where a sheet is legal and a certificate is accepted for its revenue, no legal sheet of the net earns more, and its
-/// run is optimal.
+/// If a sheet is legal and a certificate is accepted for its revenue, no legal sheet of the net earns more, and its run
+/// is optimal.
 pub fn optimal()
     ensures run { (net : Net) (sheet : List TrainWord) (claim : ℕ) (tree : CertTree) → Accepts net claim tree →
         (legal : IsLegal net sheet claim) → Optimal net legal.run }
@@ -23,7 +23,7 @@ pub fn revenue()
     ensures { (net : Net) (sheet : List TrainWord) (revenue : ℕ) → IsLegal net sheet revenue → revenue ≡ revenue_of net sheet }
 {}
 
-/// A sheet is legal exactly where it is that of a lawful run. It is that of one run alone, whose revenue it has, and
+/// A sheet is legal exactly if it is that of a lawful run. It is that of one run alone, whose revenue it has, and
 /// breaks no clause; and no sheet breaks two clauses first.
 pub fn sheets()
     ensures legal { (net : Net) (sheet : List TrainWord) (run : List Trip) → IsSheetOf net sheet run → Run net run → IsLegal net sheet (earned net run) }

@@ -1,8 +1,8 @@
 //! Sheets of runs: whether a sheet is that of a lawful run, what the run earns, and the law of certificates for sheets.
 //! And whether a corporation has a route (`trips`).
 //!
-//! Stands on `rr_checker` and `rr_routes`. Its promise: `legal` tells the revenue exactly where the sheet `IsLegal`,
-//! else the clause that it `Breaks`.
+//! Stands on `rr_checker` and `rr_routes`. Its promise: `legal` returns the revenue of a lawful run's sheet
+//! (`IsLegal`), or the first clause that the sheet breaks (`Breaks`). `has_route` is exact; its time has no bound.
 #![tactic(auto)]
 
 mod apart;

@@ -21,8 +21,8 @@ pub fn most_nodes()
     ensures { MOST_NODES ≡ 1024 }
 {}
 
-/// Where a certificate is accepted for a claim, no run of the net earns more than the claim, and a run that earns
-/// the claim is optimal, whoever made it.
+/// If a certificate is accepted for a claim, no run of the net earns more than the claim. A run that earns the claim is
+/// optimal, whoever made it.
 pub fn optimal()
     ensures most { (net : Net) (claim : ℕ) (tree : CertTree) → Accepts net claim tree →
         (run : List Trip) → Run net run → earned net run ≤ claim }
@@ -50,8 +50,8 @@ pub fn same_links()
         earned net run ≡ earned net other }
 {}
 
-/// Where every link is decided, one look settles a full leaf: it stands where no run keeps the fates, and where one
-/// does, exactly if that run earns at most the claim.
+/// If every link is decided, one look settles a full leaf: it stands if no run keeps the fates, and if one does,
+/// exactly if that run earns at most the claim.
 pub fn full_leaves()
     ensures no_run { (net : Net) (claim : ℕ) (fates : List Fate) → ((link : ℕ) → fate_of fates link ≢ Open) →
         ((run : List Trip) → Run net run → Keeps fates run → ⊥) → IsFull net claim fates }
@@ -59,8 +59,8 @@ pub fn full_leaves()
         (run : List Trip) → Run net run → Keeps fates run → IsFull net claim fates ↔ (earned net run ≤ claim) }
 {}
 
-/// A split is accepted exactly where its link is open and its children are accepted one by one: the first under the
-/// link denied to all, then one under the link of each train. A tree has one node more than its children together.
+/// A split is accepted exactly if its link is open and its children are accepted one by one: the first under the link
+/// denied to all, then one under the link of each train. A tree has one node more than its children together.
 pub fn splits()
     ensures accepted { (net : Net) (claim : ℕ) (fates : List Fate) (link : ℕ) (children : Vec CertTree Global) →
         AcceptsUnder net claim fates (Split link children) ↔ ((fate_of fates link ≡ Open)

@@ -16,7 +16,7 @@ pub fn splitting()
         ((later : List (List ℕ)) × (others ≡ lines ++ later)) }
 {}
 
-/// What is handed on of a line is the line, or tells that it is too long.
+/// What is handed on of a line is the line, or shows that it is too long.
 pub fn taking()
     ensures whole { (line : List ℕ) → length line ≤ LONGEST_LINE → taken line ≡ line }
     ensures too_long { (line : List ℕ) → LONGEST_LINE < length line → length (taken line) ≡ LONGEST_LINE + 1 }

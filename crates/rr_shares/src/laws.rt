@@ -16,7 +16,7 @@ pub fn heir_has_the_most()
     ensures { HeirHasTheMost }
 {}
 
-/// Where a seat of the table is a corporation's president, one is after the presidency was settled, and nobody at the
+/// If a seat of the table is a corporation's president, one is after the presidency was settled, and nobody at the
 /// table holds more of the corporation than that one.
 pub fn president_has_the_most()
     ensures { PresidentHasTheMost }
@@ -28,8 +28,8 @@ pub fn sales_move_shares()
     ensures { SalesMoveShares }
 {}
 
-/// Of two seats with equally many shares the nearer one on the president's left takes over, and a president with as
-/// many stays.
+/// If two seats have equally many shares, the nearer one on the president's left takes over. A president who has no
+/// fewer than they stays.
 pub fn worked_heirs()
     ensures { WorkedHeirs }
 {}

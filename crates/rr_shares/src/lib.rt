@@ -1,7 +1,9 @@
 //! Which certificates move when shares change hands: the lowest shares of a place, the presidency, what is sold, and
-//! the money with which a corporation begins. What a seat may hold and may sell says `limits`.
+//! the money with which a corporation begins. `limits` says what a seat may hold and may sell.
 //!
-//! Stands on `rr_desk`. Its promise: each call `Takes` exactly its effect: a sale, a presidency handed over, a float.
+//! Stands on `rr_desk`. Its promise: `sell_shares`, `hand_over` and `float` each add exactly their effect. A seat's
+//! limits, the verdict on its sale and whether it must sell first are exact over the book (`judge_sale_in_round`,
+//! `must_sell_first`).
 #![tactic(auto)]
 
 mod floating;

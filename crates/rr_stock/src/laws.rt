@@ -10,7 +10,7 @@ pub fn one_turn_at_most()
     ensures { OneTurnAtMost }
 {}
 
-/// Where the pool has at most half of each corporation, it has at most half of each after whatever lawful command.
+/// If the pool has at most half of each corporation, it has at most half of each after any lawful command.
 pub fn pool_stays_within_half()
     ensures { PoolStaysWithinHalf }
 {}
@@ -28,7 +28,7 @@ pub fn worked_sale()
     ensures { WorkedSale }
 {}
 
-/// Who buys more than the president has becomes president, for two of its shares.
+/// A player who buys more than the president has becomes president, for two of its shares.
 pub fn worked_presidency()
     ensures { WorkedPresidency }
 {}
@@ -53,7 +53,7 @@ pub fn worked_sixty()
     ensures { WorkedSixty }
 {}
 
-/// Who has more than 60% of a corporation in white or yellow has to sell first, once sales are lawful.
+/// A player who has more than 60% of a corporation in white or yellow has to sell first, once sales are lawful.
 pub fn worked_must_sell()
     ensures { WorkedMustSell }
 {}
@@ -63,7 +63,7 @@ pub fn worked_second_purchase()
     ensures { WorkedSecondPurchase }
 {}
 
-/// A president goes below 20% only where another player has as much, who becomes president.
+/// A president goes below 20% only if another player has 20%, who then becomes president.
 pub fn worked_succession()
     ensures { WorkedSuccession }
 {}

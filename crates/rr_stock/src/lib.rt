@@ -1,7 +1,7 @@
 //! The stock rounds: pars, purchases and sales of shares, and the end of a round.
 //!
-//! Stands on `rr_shares`. Its promise: `judge` is exactly `verdict` over the book, `play` exactly `entries_of`. What a
-//! forced sale shares with a sale, `proceeds` and `pay_seller`, it shows too.
+//! Stands on `rr_shares`. Its promise: `judge` answers exactly `verdict` over the book for pars, purchases, sales,
+//! swaps and the end of a turn, and `play` adds exactly `entries_of`.
 #![tactic(auto)]
 
 mod commands;

@@ -13,13 +13,13 @@ pub fn one_world()
     ensures { OneWorld }
 {}
 
-/// What a store tells by numbers is in its file, whatever a stop leaves of it: the number of the last record, as `last`
-/// gives it, and that of the root that is taken.
+/// The numbers that a store returns are in its file, whatever a stop leaves of it: the number of the last record, as
+/// `last` returns it, and that of the current root.
 pub fn numbers_are_in_the_file<D: Disk>()
     ensures { NumbersAreInTheFile D.state }
 {}
 
-/// Few commands are left to be played behind the last snapshots, where a directory names those that each table is to have.
+/// If a directory names the snapshots that each table needs, few commands are left to be played after the last ones.
 pub fn few_are_left()
     // Fewer than 64 of a table whose snapshots are just those that it is to have;
     ensures few { FewAreLeft }
@@ -29,9 +29,9 @@ pub fn few_are_left()
     ensures named { LentRootsAreNamed }
 {}
 
-/// An opening plays few commands of a file whose root has of each table just the snapshots that it is to have. That each
-/// file which a checkpoint leaves has such a root is what `Store::checkpoint` tells (`names`), of one that is made by
-/// steps `named_roots_play_few`, and `open` tells how many commands it played (`replayed`).
+/// An opening plays few commands of a file whose root has exactly the snapshots that each table needs.
+/// `Store::checkpoint` says that each file which it leaves has such a root (`names`), `named_roots_play_few` says so of
+/// one that is made by steps, and `open` returns how many commands it played (`replayed`).
 pub fn openings_play_few()
     // Fewer than 64 of each table in the root, beside those of the records;
     ensures few { OpeningsPlayFew }
@@ -41,11 +41,10 @@ pub fn openings_play_few()
     ensures new_files { NewFilesNameSnapshots }
 {}
 
-/// Few commands are played to open what a stop between calls leaves of a store whose roots have of each table just the
-/// snapshots that it is to have. Each call that doesn't break the store keeps that they have them, and that the root which
-/// is coming is to have them; behind the last step of a checkpoint the one is taken that was coming (`names` and
-/// `renews_names` of `Steps` and `Commits`). An opening begins with such roots, of a file that has such a one (`names` of
-/// `open`).
+/// Few commands are played to open what a stop between calls leaves of a store whose roots have exactly the snapshots
+/// that each table needs. Each call that doesn't break the store keeps that they have them, and that the next root is
+/// to have them; after the last step of a checkpoint the next root is current (`names` and `renews_names` of `Steps`
+/// and `Commits`). An opening of a file with such a root begins with such roots (`names` of `open`).
 pub fn named_roots_play_few<D: Disk>()
     ensures images { NamedRootsPlayFew D.state }
     // Where no checkpoint is under way, and none was found begun, nothing is asked of a coming root;
@@ -56,9 +55,9 @@ pub fn named_roots_play_few<D: Disk>()
     ensures calls { CallsKeepNames D.state }
 {}
 
-/// What the contracts of the calls on a store say is what the law over schedules allows of events, however they end and
-/// wherever they are stopped: a commit, a tick and a checkpoint on a store that isn't broken, and an opening of a file
-/// that keeps tables of a right kit.
+/// Calls on a store are events that the law over schedules allows, however they end and wherever a crash cuts them off.
+/// That is so of a commit, a tick and a checkpoint on a store that isn't broken, and of an opening of a file that keeps
+/// tables of a right kit.
 pub fn calls_are_events<D: Disk>()
     ensures commits { CommitsAreEvents D.Honest D.Works D.state D.past D.fault_count D.write_count D.sync_count }
     ensures ticks { StepsAreEvents D.Honest D.Works D.state D.past D.fault_count D.write_count D.sync_count Tick }
@@ -66,10 +65,10 @@ pub fn calls_are_events<D: Disk>()
     ensures opens { OpensAreEvents D.Honest D.Works D.state D.past D.fault_count D.write_count D.sync_count }
 {}
 
-/// Whatever calls are made one after another on a file that keeps tables of a right kit, with stops within them and
-/// between them, programs killed within them, and openings behind these: each file that a stop may leave keeps the
-/// tables of the requests that were acknowledged or, where one is pending, those with it. A store that isn't broken
-/// holds just the former, and no opening is turned away.
+/// Whatever calls are made on a file that keeps tables of a right kit, with crashes, killed programs and openings, each
+/// file that a crash may leave keeps the tables of the acknowledged requests, or those with the pending one. Crashes
+/// may come within calls and between them, and openings after these. A store that isn't broken holds just the
+/// acknowledged ones, and no opening is refused.
 pub fn sessions_are_safe<D: Disk>()
     ensures safe { SessionsAreSafe D.Honest D.Works D.state D.past D.fault_count D.write_count D.sync_count }
     // What a killed program leaves may be a write in part.

@@ -1,8 +1,19 @@
 //! The crash-safe store of a club's tables: the world of the requests that one file accepted, whatever a stop leaves of
-//! it. What an opening makes of the file's bytes by the rules of the game, `recovery` says.
+//! it. `recovery` says what an opening makes of the file's bytes by the rules of the game.
 //!
-//! Stands on `rr_tables` and `rr_log`. Its promise: a commit's `CommitAllows`, a tick's `TickAllows` and an opening's
-//! `OpenAllows`: each image stands for the world before, or with the one request under way.
+//! Stands on `rr_tables` and `rr_log`. Its promises:
+//!
+//! - `Store::commit`: each image of each moment stands for the tables before it, or with the one pending lawful
+//!   request; after success with it (`CommitAllows`). `Commits` counts its calls. If tables were played, 70 changes
+//!   nothing, unless the request is lawful and the half has no room after it.
+//! - `Store::tick` and `Store::checkpoint`: each image stands for the same tables, and after the last step has a newer
+//!   root (`Steps`).
+//! - `open` makes one sync and no write, and answers as `OpenAllows` says; 70 comes only if a root is current.
+//!   `Store::replayed` counts the commands after each table's last snapshot, all of a table that lacks one, and those
+//!   of the records.
+//! - Commits, ticks and checkpoints that succeed keep the rule that a root has exactly the required snapshots, also for
+//!   the next root, and a crash within one leaves such a root (`KeepsNames`). `format` leaves the whole new file, or no
+//!   store.
 #![tactic(auto)]
 
 mod fault;

@@ -1,7 +1,7 @@
 //! The tiles of a kit: their tracks and centres, and the manifest of a kit's tiles, read from texts.
 //!
-//! Stands on `rr_words`. Its promise: the readers' `Spells` and `IsRefusal`, and `keeps`, exactly whether one tile
-//! keeps another.
+//! Stands on `rr_words`. Its promise: tiles and the manifest are read exactly, or refused with the first wrong line
+//! (`Spells`, `IsRefusal`). Turning a tile is exact (`turned`), and so is whether one tile keeps another (`keeps`).
 #![tactic(auto)]
 
 mod centre_word;

@@ -1,8 +1,9 @@
 //! Which trains are where, what is on sale, what the phase of the game allows, and what the first train of a kind
 //! brings about; and what a corporation buys and gives up (`depot`).
 //!
-//! Stands on `rr_desk` and `rr_market`. Its promise: `train_limit`, `is_on_sale` and `first_train`, each exactly its
-//! definition.
+//! Stands on `rr_desk` and `rr_market`. Its promise: `train_limit`, `is_on_sale`, `cheapest` and `first_train` are each
+//! exactly their definition. Purchases, trades and discards are refused exactly by their verdict over the book, and add
+//! exactly their entries (`depot::judge`, `depot::play`).
 #![tactic(auto)]
 
 pub mod depot;

@@ -17,7 +17,8 @@ pub fn floors_never_fall<C>()
     ensures { FloorsNeverFall C }
 {}
 
-/// A table that is taken back to a turn has ended just as many turns, and keeps the commands up to that turn's end.
+/// A table that is taken back to a turn has ended exactly the turns up to it, and keeps the commands up to that turn's
+/// end.
 pub fn back_ends_with_its_turn<C>()
     ensures { BackEndsWithItsTurn C }
 {}
@@ -27,7 +28,7 @@ pub fn one_front_ends_with_a_turn<C>()
     ensures { OneFrontEndsWithATurn C }
 {}
 
-/// Where a turn has just ended, to be taken back to it changes nothing. A turn that is under way is dropped.
+/// If a turn has just ended, going back to it changes nothing. A turn that is under way is dropped.
 pub fn back_to_the_present_turn<C>()
     ensures { BackToThePresentTurn C }
 {}
@@ -42,7 +43,7 @@ pub fn back_keeps_its_count<C>()
     ensures { BackKeepsItsCount C }
 {}
 
-/// One command more tells one turn's end more, if it ends a turn: the count of commands with it.
+/// A command that ends a turn adds one turn's end: the count of commands with it.
 pub fn ends_grow_at_the_end<C>()
     ensures { EndsGrowAtTheEnd C }
 {}
@@ -62,7 +63,7 @@ pub fn ends_are_within_the_commands<C>()
     ensures { EndsAreWithinTheCommands C }
 {}
 
-/// Where the counts are a table's and its next command ends a turn, `Ends::add` gives those of the table with it.
+/// If the counts are a table's and its next command ends a turn, `Ends::add` returns those of the table with it.
 pub fn one_end_more<C>(ends: &mut Ends, count: usize)
     requires later { All (λ earlier. earlier < count) ends.old }
     requires most { count ≤ MOST_COMMANDS }
@@ -71,21 +72,21 @@ pub fn one_end_more<C>(ends: &mut Ends, count: usize)
     ends.add(count);
 }
 
-/// Where the counts are a table's, `Ends::through` gives those of the table taken back.
+/// If the counts are a table's, `Ends::through` returns those of the table taken back.
 pub fn ends_of_a_back<C>(ends: &Ends, turn: usize) -> Ends
     ensures { TellsTheEndsOfABack C ends.now turn result }
 {
     ends.through(turn)
 }
 
-/// Where the counts are a table's, `Ends::kept_at` tells how many commands a take-back keeps.
+/// If the counts are a table's, `Ends::kept_at` returns how many commands a take-back keeps.
 pub fn count_of_a_back<C>(ends: &Ends, turn: usize) -> Option<usize>
     ensures { TellsTheCountOfABack C ends.now turn result }
 {
     ends.kept_at(turn)
 }
 
-/// Where the counts are a table's, `Ends::turns` tells how many of its turns have ended.
+/// If the counts are a table's, `Ends::turns` returns how many of its turns have ended.
 pub fn ended_turns<C>(ends: &Ends) -> usize
     ensures { TellsTheEndedTurns C ends.now result }
 {

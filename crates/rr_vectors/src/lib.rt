@@ -1,7 +1,7 @@
-//! Files of a store as the program wrote them once, for later versions to read.
+//! Files of a store as the program wrote them once, for later versions to read. `tools/make-vectors --compare` holds
+//! that these are the files.
 //!
-//! Stands on `rr_words` and `hex`. Its promise: `KeptFile::content` gives the bytes that its lines spell. That these are
-//! the files is what `tools/make-vectors --compare` tells.
+//! Stands on `rr_words` and `hex`. Its promise: `KeptFile::content` returns the bytes that its lines spell.
 #![tactic(auto)]
 
 mod fault;

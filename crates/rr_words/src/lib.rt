@@ -1,8 +1,9 @@
 //! The words of a line and of a text: names, numbers, and how a line and a text are cut into words; and values that bytes
 //! spell in one way (`spelling`).
 //!
-//! Stands on `byteorder`. Its promise: each reader (`Name::table`, `Name::player`, `number`) finds exactly what is
-//! spelled, and `words` and joining are inverse.
+//! Stands on `byteorder`. Its promise: names, numbers and words are read exactly as spelled (`Name::table`,
+//! `Name::player`, `number`). Cutting a line into `words` and joining them are inverse. A value is read exactly if
+//! bytes begin with its spelling, and no bytes begin with two (`Spell`, `Form`).
 #![tactic(auto)]
 
 mod bytes;

@@ -1,10 +1,11 @@
 //! Laws on files and worlds: whatever comes to a store's file, each world that it keeps is sound; a file opens or is
 //! refused and never both; two fronts of the accepted requests never have one world; whatever lines are served are
-//! calls of a store; and few commands are played to open a file. The calls do nothing, but for the one that opens a
+//! calls of a store; and few commands are played to open a file. The calls do nothing, except the one that opens a
 //! file: their contracts hold of all files, worlds and schedules.
 //!
-//! Stands on `rr_moderator`, `rr_store`, `rr_tables` and `rr_laws`; nothing of the program stands on it. Its promises:
-//! `whatever_comes_is_sound`, `services_go_on` and `histories_play_few`.
+//! Stands on `rr_moderator`, `rr_store`, `rr_tables` and `rr_laws`; nothing of the program stands on it. Its promise:
+//! the laws `whatever_comes_is_sound`, `standing_files_open`, `sessions_go_on`, `services_go_on` and
+//! `histories_play_few`, at the root.
 #![tactic(auto)]
 
 ghost use Rattle.std.specs.Prelude.{IfOk};
@@ -21,9 +22,9 @@ use rr_disk::Disk;
 use rr_store::{Refused, Store, open};
 use std::alloc::Global;
 
-/// Whatever commits, steps of checkpoints, faults, stops and openings come to a new file: each image keeps the world of
-/// the acknowledged requests, or that with the pending one. In it each table is in order, and no run of a corporation's
-/// trains earned more than one paid as best.
+/// Whatever commits, steps of checkpoints, faults, crashes and openings come to a new file, each image keeps the world
+/// of the acknowledged requests, or that with the pending one. In it each table is in order, and no run of a
+/// corporation's trains earned more than one paid as best.
 pub fn whatever_comes_is_sound()
     ensures { WhateverComesIsSound }
 {
@@ -35,18 +36,17 @@ pub fn whatever_comes_is_sound()
 }
 
 /// Whatever calls are made one after another on a new file, with stops and killed programs within them, stops between
-/// them, and openings behind these: what they say is what the law over sessions says, and each world that a stop may
-/// leave is sound, and so is what a store holds that isn't broken.
+/// them, and openings after these, the law over sessions holds, each world that a stop may leave is sound, and so is
+/// what a store holds that isn't broken.
 pub fn sessions_are_sound<D: Disk>()
     ensures { SessionsAreSound D.Honest D.Works D.state D.past D.fault_count D.write_count D.sync_count }
 {
     whatever_comes_is_sound();
 }
 
-/// A program may end, be killed, or be cut off by a stop of the machine, and another one be started on what it left,
-/// whether or not all of that was synced, with a disk value of whatever type: what both do, one behind the other, is
-/// one schedule from the first tables, and it is safe over all acknowledged requests of both. So it is however many
-/// programs ran before.
+/// If a program ends, is killed or is cut off by a crash, and another one is started on what it left, what both do is
+/// one schedule, safe over all acknowledged requests of both. What was left need not be synced, and the second disk
+/// value may be of any type. This holds however many programs ran before.
 pub fn sessions_go_on<D: Disk, E: Disk>()
     ensures two { SessionsGoOn D.Honest D.Works D.state D.past D.fault_count D.write_count D.sync_count
         E.Honest E.Works E.state E.past E.fault_count E.write_count E.sync_count }
@@ -56,9 +56,8 @@ pub fn sessions_go_on<D: Disk, E: Disk>()
     rr_store::laws::sessions_are_safe::<D>();
 }
 
-/// And what is kept stays sound behind a restart: where the first program began on a new file, however many ran before,
-/// each world that a stop may leave of a later one's disk is sound, and so is what its store holds, unless the device
-/// failed.
+/// What is kept stays sound after a restart: if the first program began on a new file, each world that a crash may
+/// leave of a later one's disk is sound, however many ran before. So is what its store holds, unless the device failed.
 pub fn sessions_that_go_on_are_sound<D: Disk, E: Disk>()
     ensures { SoundSessionsGoOn D.Honest D.Works D.state D.past D.fault_count D.write_count D.sync_count
         E.Honest E.Works E.state E.past E.fault_count E.write_count E.sync_count }
@@ -66,11 +65,10 @@ pub fn sessions_that_go_on_are_sound<D: Disk, E: Disk>()
     whatever_comes_is_sound();
 }
 
-/// Whatever lines a moderator answers, over a store that was opened behind whatever was done before: what that made of
-/// the store's calls is a session, one commit for a line at most, and goes on safely with all before it. So it is of
-/// all lines, and wherever a stop cuts them off, or their program is killed: the tables that each image keeps are those
-/// of the requests that were acknowledged before and of the lines that were answered `ok` by then, or these with a
-/// request for which the line then under way asks.
+/// The lines that a moderator answers are calls of its store, at most one commit for a line, and go on safely with
+/// whatever was done before. This holds of all lines, and wherever a crash cuts them off or their program is killed:
+/// the tables that each image keeps are those of the requests that were acknowledged before and of the lines that were
+/// answered `ok` by then, or these with a request for which the line then under way asks.
 pub fn services_go_on<D: Disk, E: Disk>()
     ensures services { ServicesGoOn D.Honest D.Works D.state D.past D.fault_count D.write_count D.sync_count
         E.Honest E.Works E.state E.past E.fault_count E.write_count E.sync_count }
@@ -81,9 +79,9 @@ pub fn services_go_on<D: Disk, E: Disk>()
     ensures join { SessionsJoin E.Honest E.Works E.state E.past E.fault_count E.write_count E.sync_count }
 {}
 
-/// Whatever lines a moderator answers whose disk carries what it holds: at each moment each file that a stop may leave
-/// keeps the tables of the requests that were accepted by then, or those with the request that is pending of the line
-/// under way; and between two lines just the former, unless the device failed.
+/// At each moment of a service each file that a crash may leave keeps the tables of the requests accepted by then, or
+/// those with the pending one of the line under way. Between two lines it keeps just the former, unless the device
+/// failed. The moderator's disk has to carry what it holds.
 pub fn services_keep_in_time<D: Disk>()
     ensures { ServicesKeepInTime D.Honest D.Works D.state D.past D.fault_count D.write_count D.sync_count }
 {}
@@ -112,8 +110,8 @@ pub fn right_kits_are_not_wrong()
     ensures { RightKitsAreNotWrong }
 {}
 
-/// A file opens or is refused, and never both: one that stands for a world is refused only where the device fails or
-/// memory is wanted.
+/// A file opens or is refused, and never both: one that stands for a world is refused only if the device fails or
+/// memory runs out.
 pub fn standing_files_open()
     ensures { StandingFilesOpen }
 {}
@@ -150,9 +148,10 @@ pub fn open_in_a_history<D: Disk + Drop>(alloc: Global, disk: D) -> Result<Store
     open(alloc, disk)
 }
 
-/// Few commands are played to open a file. Whatever programs open a new file, one after another, and whatever commits, ticks
-/// and checkpoints they make: what a stop leaves between two calls, or at any moment of one, keeps tables, and its root has
-/// of each just the snapshots that it is to have. So it is of what a call leaves whose device failed.
+/// Few commands are played to open a file, whatever programs with one type of disk opened it since it was new, and
+/// whatever commits, ticks and checkpoints they made. What a crash leaves between two calls, or at any moment of one,
+/// keeps tables, and its root has exactly the snapshots that each needs. So does what a call leaves whose device
+/// failed.
 pub fn histories_play_few<D: Disk>()
     // So a file begins that is formatted, and so it goes on where a program ends, also behind a call whose device failed.
     ensures begin { HistoriesBegin D.Honest D.Works D.state D.past D.fault_count D.write_count D.sync_count }

@@ -9,17 +9,17 @@ pub fn tables_go_on()
     ensures { TablesGoOn }
 {}
 
-/// A table that was taken back to a turn has the game of its first so many turns.
+/// A table that was taken back to a turn has the game of its turns up to that one.
 pub fn back_goes_to_its_turn()
     ensures { BackGoesToItsTurn }
 {}
 
-/// A table that was taken back to a turn keeps as many commands as its game tells of that turn's end.
+/// A table that was taken back to a turn keeps the number of commands that its game has for that turn's end.
 pub fn back_keeps_its_count()
     ensures { BackKeepsItsCount }
 {}
 
-/// Where a turn has just ended, to be taken back to it changes no game. What was played since a turn's end is dropped.
+/// If a turn has just ended, going back to it changes no game. What was played since a turn's end is dropped.
 pub fn back_to_the_present_turn()
     ensures { BackToThePresentTurn }
 {}

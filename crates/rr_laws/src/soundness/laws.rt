@@ -10,12 +10,12 @@ pub fn turn_is_at_the_table()
     ensures { TurnIsAtTheTable }
 {}
 
-/// Where no seat and no corporation has less than nothing, none has after whatever lawful command of a stock round.
+/// If no seat and no corporation has less than nothing, none has after any lawful command of a stock round.
 pub fn stock_stays_solvent()
     ensures { StockStaysSolvent }
 {}
 
-/// Where each certificate has a place of the table, each has one after whatever lawful command of a stock round.
+/// If each certificate has a place of the table, each has one after any lawful command of a stock round.
 pub fn stock_stays_dealt()
     ensures { StockStaysDealt }
 {}
@@ -28,7 +28,7 @@ pub fn stock_stays_sound()
     rr_stock::laws::pool_stays_within_half();
 }
 
-/// Where the pool has at most half of each corporation, it has at most half of each after whatever act of the auction.
+/// If the pool has at most half of each corporation, it has at most half of each after any act of the auction.
 pub fn auction_stays_within_half()
     ensures { AuctionStaysWithinHalf }
 {}
@@ -47,7 +47,7 @@ pub fn stock_stays_governed()
     rr_stock::laws::lawful_sales_move_shares();
 }
 
-/// Where each corporation awaits its par or is led by its president, each 20% certificate is in the offering, or with a
+/// If each corporation awaits its par or is led by its president, each 20% certificate is in the offering, or with a
 /// player than whom no other holds more of the corporation.
 pub fn governed_has_greatest_presidents()
     ensures { GovernedHasGreatestPresidents }

@@ -20,7 +20,7 @@ pub fn revenue_is_never_negative()
 {}
 
 /// Whatever lawful commands of corporations' turns are played one after another at a table in good order, it stays in
-/// good order, and what the trains have earned behind them isn't below nothing.
+/// good order, and what the trains have earned after them isn't below nothing.
 pub fn plays_of_turns_keep_good_order()
     ensures { PlaysOfTurnsKeepGoodOrder }
 {}

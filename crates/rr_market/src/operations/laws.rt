@@ -2,7 +2,7 @@
 ghost use Rattle.rr_market.specs.Operations.OperatingLaws.{BankruptciesAreRemembered, DebtsAreRemembered, DueStays, SetsKeepTheirLength, StepsNeverGoBack, TurnsAreOfTheirRound, TurnsComeOnce};
 ghost use Rattle.rr_market.specs.Operations.WorkedRound.{WorkedRound};
 
-/// Where each command is one that the step takes, a turn's steps never go back.
+/// If each command is one that the step takes, a turn's steps never go back.
 pub fn steps_never_go_back()
     ensures { StepsNeverGoBack }
 {}
@@ -12,7 +12,7 @@ pub fn due_stays()
     ensures { DueStays }
 {}
 
-/// A corporation had its turn in an operating round exactly where it said `end` since the round began.
+/// A corporation had its turn in an operating round exactly if it said `end` since the round began.
 pub fn turns_are_of_their_round()
     ensures { TurnsAreOfTheirRound }
 {}
@@ -27,13 +27,13 @@ pub fn sets_keep_their_length()
     ensures { SetsKeepTheirLength }
 {}
 
-/// Whatever the bank began with, it is told to have owed exactly where it had less than nothing after some front of the
+/// Whatever the bank began with, it counts as having owed exactly if it had less than nothing after some front of the
 /// book.
 pub fn debts_are_remembered()
     ensures { DebtsAreRemembered }
 {}
 
-/// A bankruptcy is told exactly where some entry of the book says so.
+/// A bankruptcy is known exactly if some entry of the book says so.
 pub fn bankruptcies_are_remembered()
     ensures { BankruptciesAreRemembered }
 {}

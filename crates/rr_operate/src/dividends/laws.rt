@@ -15,13 +15,13 @@ pub fn worked_moves()
     ensures withholding { WorkedWithholding }
 {}
 
-/// What a dividend adds is told by the book before it: the command's words, a payment to each seat in seating order and
-/// one to the corporation for the pool, and the token's mark, where it moves.
+/// What a dividend adds follows from the book before it: the command's words, a payment to each seat in seating order
+/// and one to the corporation for the pool, and the token's mark, if it moves.
 pub fn entries_are_these()
     ensures { EntriesAreThese }
 {}
 
-/// A revenue that is paid out is shared by percents: each seat gains the part of its shares, the corporation that of
+/// A revenue that is paid out is shared by percentage: each seat gains the part of its shares, the corporation that of
 /// the pool's, no other corporation anything, and the bank loses just what these gain, whatever it has.
 pub fn pays_each_holder()
     ensures { PaysEachHolder }

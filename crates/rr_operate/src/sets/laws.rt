@@ -12,8 +12,8 @@ pub fn worked_tokens()
     ensures { WorkedTokens }
 {}
 
-/// Behind what passes by itself, a round that is over is the last one of the game: else a corporation is due, or a
-/// stock round has begun.
+/// After what passes by itself, a round that is over is the last one of the game; else a corporation is due, or a stock
+/// round has begun.
 pub fn rounds_pass()
     ensures { RoundsPass }
 {}

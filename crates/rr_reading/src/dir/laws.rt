@@ -28,8 +28,8 @@ pub fn newest_version()
     ensures { version_number NEWEST ≡ NEWEST_VERSION }
 {}
 
-/// The limits of a directory: 64 tables, each of which keeps 4,096 commands at most and has a stamp up to
-/// 4,000,000,000, texts of 65,536 bytes, and 4,096 snapshots of 16,384 bytes.
+/// The limits of a directory: 64 tables, each of which keeps at most 4,096 commands and has a stamp up to
+/// 4,000,000,000; texts of 65,536 bytes; and 4,096 snapshots of 16,384 bytes.
 pub fn limits()
     ensures tables { MOST_TABLES ≡ 64 }
     ensures kept { MOST_KEPT ≡ 4096 }

@@ -25,8 +25,8 @@ pub fn worlds_are_read_back<R: Rules>()
     ensures read { laws.ReadIsWritten R.rules }
 {}
 
-/// What a checkpoint's plan asks of its directory: behind the texts' chains, which stay where they stand, and a chain
-/// laid for each table, it names them all and those of the snapshots, and spells the world.
+/// What a checkpoint's plan asks of its directory: with the texts' chains, which stay where they are, and a chain laid
+/// for each table, it names them all and those of the snapshots, and spells the world.
 pub fn checkpoints_spell_worlds<R: Rules>()
     ensures { laws.CheckpointsSpell R.rules }
 {}

@@ -18,7 +18,7 @@ pub fn one_meaning()
         (net : Net) (claim : ℕ) → Accepts net claim tree → Accepts net claim other }
 {}
 
-/// A text is read as a sheet exactly where it spells that sheet, and then has that sheet's words in it.
+/// A text is read as a sheet exactly if it spells that sheet, and then has that sheet's words in it.
 pub fn read_is_spelled()
     ensures read { (text : List ℕ) (sheet : List TrainWord) → (sheet_of text ≡ Some sheet) ↔ SpellsSheet text sheet }
     ensures words { (text : List ℕ) (sheet : List TrainWord) → SpellsSheet text sheet → sheet_in text ≡ sheet }

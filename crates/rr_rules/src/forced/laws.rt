@@ -3,8 +3,8 @@ ghost use Rattle.rr_rules.specs.Forced.SaleLaws.{OneShareSuffices};
 ghost use Rattle.rr_rules.specs.Forced.WorkedNeeds.{WorkedForce};
 ghost use Rattle.rr_rules.specs.Forced.WorkedSales.{WorkedBankruptcy, WorkedPresidency, WorkedRaise};
 
-/// Where a president can lawfully sell any number of shares of any corporation for a train, it can sell one share of
-/// some corporation.
+/// If a president can lawfully sell any number of shares of any corporation for a train, it can sell one share of some
+/// corporation.
 pub fn one_share_suffices()
     ensures { OneShareSuffices }
 {}

@@ -16,8 +16,8 @@ pub fn trains_may_stay()
 {}
 
 /// On a net of at most 966 links and trains together, nine of them trains at most, no best run with its certificate is
-/// too long for a line of 8,000 bytes, whatever its stamp and its table's name. So there the search lacks a run only
-/// where the tree that splits every link has more than 1,024 nodes, and never with one train and at most nine links.
+/// too long for a line of 8,000 bytes, whatever its stamp and its table's name. So there the search lacks a run only if
+/// the tree that splits every link has more than 1,024 nodes, and never with one train and at most nine links.
 pub fn few_links_fit()
     ensures fit { FewLinksFit }
     ensures large_trees { OnlyLargeTreesLack }

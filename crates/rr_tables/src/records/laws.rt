@@ -25,8 +25,8 @@ pub fn records_move_on()
     ensures { laws.MoveOn }
 {}
 
-/// Where the tables were played, a request that is lawful at its table has a line that is taken: the text of its
-/// record. And a line that is taken is that of a lawful request at tables that were played.
+/// If the tables were played, a request that is lawful at its table has a line that is taken: the text of its record.
+/// And a line that is taken is that of a lawful request at tables that were played.
 pub fn lawful_requests_are_taken()
     ensures taken { laws.LawfulAreTaken }
     ensures lawful { laws.TakenAreLawful }
@@ -77,9 +77,9 @@ pub fn tables_are_worlds()
     ensures { AreWorlds of_tables }
 {}
 
-/// Whatever commits, ticks, faults, stops and openings come: the acknowledged requests, each lawful in its turn, make a
-/// world of tables, and each image keeps it or, where a request is pending, that with this request. A store that serves
-/// has just that world. And no opening is turned away.
+/// Whatever commits, ticks, faults, crashes and openings come, the acknowledged requests, each lawful in its turn, lead
+/// to tables that each image keeps, or it keeps those with the one pending request. A store that serves has just the
+/// acknowledged ones. And no opening is refused.
 pub fn prefix()
     ensures sound { headline.WhateverComes }
     ensures opens { headline.NoneIsTurnedAway }

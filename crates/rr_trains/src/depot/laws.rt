@@ -9,7 +9,7 @@ pub fn purchases_keep_the_limit()
     ensures { PurchasesKeepTheLimit }
 {}
 
-/// Where the bank lawfully sells a train, all smaller kinds are sold; or it is a D, and a 6 was sold.
+/// If the bank lawfully sells a train, all smaller kinds are sold; or it is a D, and a 6 was sold.
 pub fn bank_sells_in_order()
     ensures { BankSellsInOrder }
 {}
@@ -20,12 +20,12 @@ pub fn privates_go_at_fair_prices()
     ensures { PrivatesGoAtFairPrices }
 {}
 
-/// Where no seat and no corporation has less than nothing, none has after a lawful purchase or discard.
+/// If no seat and no corporation has less than nothing, none has after a lawful purchase or discard.
 pub fn nobody_overspends()
     ensures { NobodyOverspends }
 {}
 
-/// Trains have to be given up exactly where some corporation has more than the phase allows.
+/// Trains have to be given up exactly if some corporation has more than the phase allows.
 pub fn over_is_of_some_corporation()
     ensures { OverIsOfSomeCorporation }
 {}
