@@ -4,7 +4,7 @@
 usage: client.py PROGRAM FILE
 
 FILE is a new store that `moderate format` made. The client opens a table for three players, lets each buy a private
-company, and prints what everybody has then. It shows what a program that sends lines needs: one line out, one line
+company, and prints what everybody has then, and what the last turn added to the table's book. It shows what a program that sends lines needs: one line out, one line
 back; a command sent only with the stamp that its table has; and a command whose reply was lost, which is neither
 forgotten nor played twice.
 """
@@ -63,6 +63,11 @@ class Moderator:
         if kind != "=":
             raise Refused(answer)
         return [] if answer == "-" else answer.split(" ")
+
+    def book(self, table, turn):
+        """The entries that the commands of a turn added to the table's book, each as a list of words."""
+        words = " ".join(self.ask(f"book {table} {turn}"))
+        return [entry.split(" ") for entry in words.split(" ; ")] if words else []
 
     def stamp(self, table):
         """Returns the table's stamp, 0 if there is no such table: an `open` bears that one."""
@@ -136,6 +141,10 @@ def main(program, file):
     for player in players:
         print(player, *moderator.ask(f"cash t1 {player}"), *moderator.ask(f"privates t1 {player}"))
     print("due:", *moderator.ask("due t1"))
+    turns, _ = moderator.ask("turns t1")
+    print(f"turn {turns}:")
+    for entry in moderator.book("t1", turns):
+        print(" ", *entry)
     return moderator.close()
 
 

@@ -1,5 +1,5 @@
 -- The state of a table's game that takes one command more.
-use Rattle.std.proofs.Common.{◌≡◌, ◌+◌, true, List, [], ◌∷◌, ◌++◌, refl, sym, ap, ◌∙◌, subst, length-append, ℕ, Some}
+use Rattle.std.proofs.Common.{◌≡◌, ◌+◌, true, List, [], ◌∷◌, ◌++◌, refl, sym, ap, ◌∙◌, subst, length-append, append-nil, ℕ, Option, None, Some}
 use Rattle.std.proofs.lemmas.List.Sums.{fold-append}
 use Rattle.rr_code.specs.declared.command.Command.{Command}
 use Rattle.rr_code.specs.declared.command.Command.TheVariants.{Open, BuyPrivate, Bid, Pass, Par, BuyShare, Sell, Swap, Done, Order}
@@ -7,11 +7,12 @@ use Rattle.rr_books.specs.declared.acts.Act.{Act}
 use Rattle.rr_game.specs.declared.game.Game.{Game}
 use Rattle.rr_kit.specs.declared.kit.Kit.{Kit}
 use Rattle.rr_roster.specs.Terms.{Terms}
-use Rattle.rr_rules.specs.Playing.{state_after}
+use Rattle.rr_books.specs.Book.{Book}
+use Rattle.rr_rules.specs.Playing.{entries_after, state_after}
 use Rattle.rr_rules.specs.State.{AtTable, GameState, IsStandingOf}
 use Rattle.rr_game.specs.Keeping.{IsGameOf}
 use Rattle.rr_game.specs.Names.{act_of}
-use Rattle.rr_game.specs.Play.{begins_with_opening, opened_state, play, played_on, players_of, state_with}
+use Rattle.rr_game.specs.Play.{begins_with_opening, entries_by, entries_with, opened_state, play, played_on, players_of, state_with}
 use Rattle.rr_game.specs.Turning.{ends_turn}
 use Rattle.rr_turns.specs.Ends.{turn_ends}
 
@@ -78,6 +79,24 @@ stepped kit accepted c old new h more same standing ends =
       standing = standing;
       ends = ends;
     }
+
+-- the entries that a command adds to the book, by the act that it names
+pub added : (kit : Kit) (accepted : List Command) (c : Command) (act : Act) (old : Game) (es : Book) → IsGameOf kit accepted old → act_of old.players c ≡ Some act
+    → es ≡ entries_after kit (play kit accepted) act → es ≡ entries_by kit accepted c
+added kit accepted c act old es h named is =
+    let state = play kit accepted in
+    is ∙ ap (entries_with kit state) (sym named) ∙ ap (λ (ps : List (List ℕ)). entries_with kit state (act_of ps c)) h.players
+
+with_act : (kit : Kit) (state : GameState) (act : Option Act) → (state_with kit state act).book ≡ state.book ++ entries_with kit state act
+with_act kit state None = sym (append-nil state.book)
+with_act kit state (Some act) = refl
+
+-- the book after a command
+pub book_more : (kit : Kit) (accepted : List Command) (c : Command) → begins_with_opening accepted ≡ true
+    → (play kit (accepted ++ c ∷ [])).book ≡ (play kit accepted).book ++ entries_by kit accepted c
+book_more kit accepted c h =
+    let on = goes_on kit accepted c h in
+    ap (λ (s : GameState). s.book) on.state ∙ with_act kit (play kit accepted) (act_of (players_of accepted) c)
 
 -- how a table stands that opens, by the roster that the kit lends
 pub opened_at : (players : List (List ℕ)) (roster terms : Terms) (standing : AtTable) → roster ≡ terms

@@ -2,11 +2,12 @@
 use Rattle.std.specs.Prelude.{ℕ, pos, Bool, true, false, List, [], ◌∷◌, Option, None, Some, fold}
 use Rattle.rr_roster.specs.Terms.{Terms}
 use Rattle.rr_books.specs.declared.acts.Act.{Act}
+use Rattle.rr_books.specs.Book.{Book}
 use Rattle.rr_auction.specs.Opening.{opened}
 use Rattle.rr_code.specs.declared.command.Command.{Command}
 use Rattle.rr_code.specs.declared.command.Command.TheVariants.{Open}
 use Rattle.rr_kit.specs.declared.kit.Kit.{Kit}
-use Rattle.rr_rules.specs.Playing.{state_after}
+use Rattle.rr_rules.specs.Playing.{entries_after, state_after}
 use Rattle.rr_rules.specs.State.{GameState}
 use Rattle.rr_game.specs.Names.{act_of}
 
@@ -32,6 +33,15 @@ played_on kit players state command = state_with kit state (act_of players comma
 abbrev pub play : Kit → List Command → GameState
 play kit (Open players ∷ commands) = fold (played_on kit players) (opened_state players kit.roster) commands
 play kit _ = record { book = []; revenue = record { 0 = pos 0 } }
+
+-- the entries that an accepted act adds to the book
+abbrev pub entries_with : Kit → GameState → Option Act → Book
+entries_with kit state None = []
+entries_with kit state (Some act) = entries_after kit state act
+
+-- the entries that a command adds after the accepted ones
+abbrev pub entries_by : Kit → List Command → Command → Book
+entries_by kit accepted command = entries_with kit (play kit accepted) (act_of (players_of accepted) command)
 
 -- the commands begin with the opening
 abbrev pub begins_with_opening : List Command → Bool

@@ -3,13 +3,14 @@ ghost use Rattle.std.proofs.Props.{props};
 ghost use Rattle.rr_turns.specs.declared.limits.TheConstants.{MOST_COMMANDS};
 ghost use Rattle.rr_rules.specs.State.{GameState, IsStandingOf};
 ghost use Rattle.rr_game.specs.Names.{amount_in};
-ghost use Rattle.rr_game.specs.Play.{play, players_of};
+ghost use Rattle.rr_game.specs.Play.{entries_by, play, players_of};
 ghost use Rattle.rr_game.specs.Turning.{AreWithin};
 ghost use Rattle.rr_game.specs.Verdict.{command_judgement, over_verdict};
 ghost use Rattle.rr_turns.specs.Judgement.{IsVerdict, MayFind};
 
 use rr_books::Refusal;
 use rr_code::{Command, Players};
+use rr_desk::Entries;
 use rr_kit::Kit;
 use rr_rules::Standing;
 use rr_turns::Ends;
@@ -26,6 +27,15 @@ pub struct Game {
     /// How many were played at the end of each turn.
     pub(crate) ends: Ends,
     ghost within: { AreWithin played ends } by { Prim.hlevel props },
+}
+
+/// The result of a command.
+#[derive(Debug, Drop)]
+pub(crate) struct Applied {
+    /// The game after the command.
+    pub(crate) game: Game,
+    /// The entries that the command adds to the table's book, oldest first.
+    pub(crate) entries: Entries,
 }
 
 impl Game {
@@ -75,15 +85,62 @@ impl Game {
             IsGameOf kit.now (accepted ++ command.now ∷ []) game) }
         ensures played { IfOk result (λ game. game.played ≡ self.now.played + 1) }
     {
+        let applied = self.apply(alloc, command, kit)?;
+        Ok(applied.game)
+    }
+
+    /// The entries that a command would add to the table's book, oldest first. The game stays as it is.
+    ///
+    /// # Errors
+    ///
+    /// Those of `step`.
+    pub fn entries(&self, alloc: Global, command: &Command, kit: &Kit) -> Result<Entries, Refusal>
+        requires played { self.now.played < MOST_COMMANDS }
+        requires small { amount_in command.now ≤ 10000000000 }
+        ensures verdict { (accepted : List Line) → IsGameOf kit.now accepted self.now → MatchResult result
+            (λ _. IsVerdict (command_judgement kit.now (players_of accepted) (play kit.now accepted) command.now) None)
+            (λ fault. MayFind (command_judgement kit.now (players_of accepted) (play kit.now accepted) command.now) Refusal.OutOfMemory fault) }
+        ensures entries { IfOk result (λ entries. (accepted : List Line) → IsGameOf kit.now accepted self.now →
+            entries ≡ entries_by kit.now accepted command.now) }
+    {
+        let applied = self.apply(alloc, command, kit)?;
+        Ok(applied.entries)
+    }
+
+    /// The game after a command, and the entries that the command adds.
+    ///
+    /// # Errors
+    ///
+    /// Those of `step`.
+    pub(crate) fn apply(
+        &self,
+        alloc: Global,
+        command: &Command,
+        kit: &Kit,
+    ) -> Result<Applied, Refusal>
+        requires played { self.now.played < MOST_COMMANDS }
+        requires small { amount_in command.now ≤ 10000000000 }
+        ensures verdict { (accepted : List Line) → IsGameOf kit.now accepted self.now → MatchResult result
+            (λ _. IsVerdict (command_judgement kit.now (players_of accepted) (play kit.now accepted) command.now) None)
+            (λ fault. MayFind (command_judgement kit.now (players_of accepted) (play kit.now accepted) command.now) Refusal.OutOfMemory fault) }
+        ensures game { IfOk result (λ applied. (accepted : List Line) → IsGameOf kit.now accepted self.now →
+            IsGameOf kit.now (accepted ++ command.now ∷ []) applied.game) }
+        ensures entries { IfOk result (λ applied. (accepted : List Line) → IsGameOf kit.now accepted self.now →
+            applied.entries ≡ entries_by kit.now accepted command.now) }
+        ensures played { IfOk result (λ applied. applied.game.played ≡ self.now.played + 1) }
+    {
         self.judge_end(kit)?;
         let act = self.act(alloc, kit, command)?;
         let taken = self.standing.take(alloc, kit, &act)?;
         let ends = self.ends_after(command, &taken.standing);
-        Ok(Game {
-            players: self.players,
-            standing: taken.standing,
-            played: self.played + 1,
-            ends,
+        Ok(Applied {
+            game: Game {
+                players: self.players,
+                standing: taken.standing,
+                played: self.played + 1,
+                ends,
+            },
+            entries: taken.entries,
         })
     }
 

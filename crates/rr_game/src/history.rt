@@ -14,6 +14,7 @@ mod snapshots;
 mod spelled;
 mod standing;
 mod table;
+mod turn_entries;
 
 pub use change::Change;
 pub use fault::Fault;

@@ -10,7 +10,8 @@ use Rattle.rr_orders.specs.Texts.{added}
 use Rattle.rr_store.specs.declared.fault.Fault as store
 use Rattle.rr_store.specs.Held.{Held, Takes, Accepted, Refused, Wants, NoRoom, Fails, Again, stamp_after}
 use Rattle.rr_store.specs.World.{TableState, state_after, table_named}
-use Rattle.rr_moderator.specs.Answer.{accepted_text, runs_trains, spaced, earned_words}
+use Rattle.rr_moderator.specs.Answer.{accepted_text, runs_trains, earned_words}
+use Rattle.rr_entries.specs.Words.{spaced}
 use Rattle.rr_moderator.proofs.AloneLemmas.{named_after}
 
 one_stamp : {r : Result ℕ store.Fault} (a b : ℕ) → r ≡ Ok a → r ≡ Ok b → a ≡ b

@@ -1,5 +1,5 @@
 -- A table's replies depend on the table alone.
-use Rattle.std.proofs.Common.{◌≡◌, ◌⊎◌, ℕ, ◌<◌, ◌≤◌, Bool, true, false, cond, List, [], ◌∷◌, length, map, Option, None, Some, Result, inl, inr, bytes_eq, if◌then◌else◌, refl, sym, ap, subst, ◌∙◌, arith}
+use Rattle.std.proofs.Common.{◌≡◌, ◌⊎◌, ℕ, ◌<◌, ◌≤◌, Bool, true, false, cond, List, [], ◌∷◌, length, map, Option, None, Some, Result, Ok, Err, inl, inr, bytes_eq, if◌then◌else◌, refl, sym, ap, subst, ◌∙◌, arith}
 use Rattle.std.proofs.lemmas.Slice.Eq.{bytes_eq-Decides}
 use Rattle.indexmap.specs.IndexMap.{insert_entry}
 use Rattle.rr_kit.specs.declared.kit.Kit.{Kit}
@@ -16,7 +16,7 @@ use Rattle.rr_moderator.specs.declared.fault.Fault.{Fault}
 use Rattle.rr_moderator.specs.declared.fault.Fault.TheVariants as F
 use Rattle.rr_moderator.specs.Answer.{accepted_text}
 use Rattle.rr_moderator.specs.Fault.{of_rules, of_store, refusal_of}
-use Rattle.rr_moderator.specs.Queries.{Answer, answer_of_table, asked_answer, cash_answer, due_answer, holds_answer, iou_answer, limit_answer, order_answer, phase_answer, price_answer, privates_answer, query_text, reply_of, stamp_answer, trains_answer, turns_answer, worth_answer}
+use Rattle.rr_moderator.specs.Queries.{Answer, MayRefuse, MeetsQuery, answer_of_table, asked_answer, book_answer, cash_answer, due_answer, holds_answer, iou_answer, limit_answer, order_answer, phase_answer, price_answer, privates_answer, query_answer, query_text, reply_of, stamp_answer, trains_answer, turns_answer, allocates, worth_answer}
 use Rattle.rr_roster.specs.declared.company.Corp.{Corp}
 use Rattle.rr_moderator.specs.Best.{LacksRun, MayNotRun, HasNone, LacksMemory, best_run, run_verdict}
 use Rattle.rr_moderator.specs.Serving.{Meets, MeetsBest, Lacks, Finds, Responds, TooLong, Malformed, Broken, Read, reply_to, text_of}
@@ -31,7 +31,7 @@ use Rattle.rr_store.specs.World.{TableState, World, state_after, table_named}
 use Rattle.rr_game.specs.History.Laws.{RequestsHaveOneVerdict}
 use Rattle.rr_turns.specs.Judgement.{IsVerdict}
 use Rattle.rr_turns.proofs.JudgementLemmas.{is-settled, lawful-map, settled-is}
-use Rattle.rr_moderator.proofs.ServingLemmas.{one_line}
+use Rattle.rr_moderator.proofs.ServingLemmas.{one_line, reply_refused}
 use Rattle.rr_moderator.proofs.Verdicts.{refused_by_rules, world_one}
 use Rattle.rr_moderator.specs.Alone.{Alone, Exchange, Found, IsCalm, IsDisturbed, Names, Picks, Runs, found_best, found_for, found_in, line_table, query_table, sent}
 use Rattle.rr_words.specs.declared.line.TheConstants.{LONGEST_LINE}
@@ -190,7 +190,19 @@ query_alone kit tables name (Q.Phase table) about = ap reply_of (ask_alone (phas
 query_alone kit tables name (Q.Trains table of) about = ap reply_of (ask_alone (trains_answer kit of) tables name table (some_same table name about))
 query_alone kit tables name (Q.Iou table) about = ap reply_of (ask_alone (iou_answer kit) tables name table (some_same table name about))
 query_alone kit tables name (Q.Worth table player) about = ap reply_of (ask_alone (worth_answer kit player) tables name table (some_same table name about))
+query_alone kit tables name (Q.Book table turn) about = ap reply_of (ask_alone (book_answer kit turn) tables name table (some_same table name about))
 query_alone kit tables name (Q.Privates table of) about = ap reply_of (ask_alone (privates_answer kit of) tables name table (some_same table name about))
+
+-- a reply that isn't `out of memory` is the text of the answer
+query_answered : (kit : Kit) (tables : World) (query : Query) (outcome : Result (List ℕ) Fault) → MeetsQuery kit tables query outcome
+    → ¬ IsDisturbed (reply_to outcome) → reply_to outcome ≡ query_text kit tables query
+query_answered kit tables query (Ok text) meets calm = meets.1
+query_answered kit tables query (Err fault) meets calm = by_memory (allocates query) meets
+  where
+    by_memory : (b : Bool) → MayRefuse b (query_answer kit tables query) fault → refusal_of fault ≡ query_text kit tables query
+    by_memory true (inl is) = reply_refused (query_answer kit tables query) fault is
+    by_memory true (inr wants) = absurd (calm (F.OutOfMemory, refl, ap refusal_of wants.1))
+    by_memory false is = reply_refused (query_answer kit tables query) fault is
 
 abbrev Same : Held → Held → List ℕ → (Outcome → Type 0) → List ℕ → Type 0
 Same old new name Comes reply = Comes (reply, table_named new.tables name) × (new.kit ≡ old.kit)
@@ -257,7 +269,7 @@ meets_alone old new name (L.Request stamp table c) outcome about meets calm =
     subst (λ (o : Result (List ℕ) Fault). Same old new name (RequestAlone old.kit name (table_named old.tables name) stamp c []) (reply_to o)) (sym told)
     (takes_alone old new stamp name c [] takes (subst (λ (o : Result (List ℕ) Fault). ¬ IsDisturbed (reply_to o)) told calm))
 meets_alone old new name (L.Query query) outcome about meets calm =
-    let text = meets.1 ∙ query_alone old.kit old.tables name query about in
+    let text = query_answered old.kit old.tables query outcome meets.1 calm ∙ query_alone old.kit old.tables name query about in
     let there = ap (λ h. table_named h.tables name) meets.0 in
     (λ i. (text i, there i), ap (λ h. h.kit) meets.0)
 meets_alone old new name (L.Best stamp table corp) outcome about meets calm =

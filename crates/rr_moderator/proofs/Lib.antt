@@ -1,6 +1,7 @@
 pub mod Listing
 pub mod Verdicts
 pub mod Replies
+pub mod BookLemmas
 pub mod BestLemmas
 pub mod LawfulLemmas
 pub mod ServingLemmas

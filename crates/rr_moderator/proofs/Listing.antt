@@ -7,7 +7,7 @@ use Rattle.std.proofs.lemmas.List.Concat.{flat_map-append}
 use Rattle.rr_roster.specs.declared.company.Private.{Private}
 use Rattle.rr_roster.specs.declared.company.Corp.{Corp}
 use Rattle.rr_roster.specs.Company.{corp_name, private_name}
-use Rattle.rr_moderator.specs.Answer.{spaced}
+use Rattle.rr_entries.specs.Words.{spaced}
 
 pub listed_more : (t : Private → Bool) (ps : List Private) (i : ℕ) (d : Private) → i < length ps →
     spaced (map private_name (filter t (take (i + 1) ps)))

@@ -4,7 +4,8 @@ use Rattle.std.proofs.lemmas.Bool.{cases_lt}
 use Rattle.std.proofs.lemmas.List.{flat_map_more, take_all, take_more}
 use Rattle.std.proofs.lemmas.Option.{get_or_from_slice_get, none-some, slice_get-get_or, slice_get_within}
 use Rattle.rr_moderator.specs.declared.fault.Fault.{Fault}
-use Rattle.rr_moderator.specs.Answer.{answer_of, spaced}
+use Rattle.rr_moderator.specs.Answer.{answer_of}
+use Rattle.rr_entries.specs.Words.{spaced}
 use Rattle.rr_moderator.specs.Queries.{Answer, Writes, answer_of_table, fault_of, reply_of}
 use Rattle.rr_store.specs.declared.fault.Fault as store
 use Rattle.rr_store.specs.declared.fault.Fault.TheVariants as T

@@ -1,5 +1,5 @@
 -- What a moderator answers, from what its parts did.
-use Rattle.std.proofs.Common.{◌≡◌, ℕ, List, Option, None, Some, Result, Ok, Err, MatchResult, sym, ap, subst, ◌∙◌}
+use Rattle.std.proofs.Common.{◌≡◌, ℕ, List, Option, Some, Result, Ok, Err, sym, ap, subst, ◌∙◌}
 use Rattle.rr_disk.specs.Disk.{DiskState}
 use Rattle.rr_code.specs.declared.command.Command.TheVariants as C
 use Rattle.rr_orders.specs.declared.order.Order.{Order}
@@ -19,19 +19,12 @@ use Rattle.rr_store.specs.Holding.{GamesArePlayed, held_of}
 use Rattle.rr_store.specs.World.{table_named}
 use Rattle.rr_moderator.specs.Best.{IsBestRun}
 use Rattle.rr_moderator.specs.Choosing.{CommitsBest, Stays, Goes_on}
-use Rattle.rr_moderator.specs.Serving.{MeetsBest, Lacks, Finds, outcome_of, reply_to, text_of}
+use Rattle.rr_moderator.specs.Serving.{MeetsBest, Lacks, Finds, text_of}
 
 -- a query that is refused
 pub reply_refused : (answer : Answer) (fault : Fault) → fault_of answer ≡ Some fault → refusal_of fault ≡ reply_of answer
 reply_refused (Ok words) fault is = absurd cc
 reply_refused (Err other) fault is = let same : fault ≡ other = cc in ap refusal_of same
-
--- what came of a query
-pub queried : (answer : Answer) (r : Result (Unit {0}) Fault) (reply : List ℕ)
-    → MatchResult r (λ _. (fault_of answer ≡ None) × (reply ≡ reply_of answer)) (λ fault. fault_of answer ≡ Some fault)
-    → reply_to (outcome_of r reply) ≡ reply_of answer
-queried answer (Ok u) reply h = h.1
-queried answer (Err fault) reply h = reply_refused answer fault h
 
 -- a line has one meaning
 pub one_line : (line : List ℕ) (l m : Line) → SpellsLine line l → SpellsLine line m → l ≡ m

@@ -1,5 +1,5 @@
 -- Which replies say that the device failed, or that the file is full.
-use Rattle.std.proofs.Common.{◌≡◌, ℕ, ◌==◌, Bool, true, false, not, List, [], ◌∷◌, ◌++◌, codes, Option, None, Some, if◌then◌else◌, option_map, nat_le, refl, sym, subst}
+use Rattle.std.proofs.Common.{◌≡◌, ℕ, ◌==◌, Bool, true, false, not, List, [], ◌∷◌, ◌++◌, codes, Option, None, Some, Result, Ok, Err, inl, inr, if◌then◌else◌, option_map, nat_le, refl, sym, subst}
 use Rattle.std.specs.Fmt.{digits}
 use Rattle.rr_kit.specs.declared.kit.Kit.{Kit}
 use Rattle.rr_kit.specs.declared.fault.Fault as kit
@@ -33,7 +33,9 @@ use Rattle.rr_moderator.specs.Answer.{accepted_text, answer_of}
 use Rattle.rr_moderator.specs.Best.{LacksRun, MayNotRun, HasNone, LacksMemory}
 use Rattle.rr_moderator.specs.Durability.{CountsTold, reaches_file, tells_acceptance, tells_full}
 use Rattle.rr_moderator.specs.Fault.{of_rules, of_store, refusal_of}
-use Rattle.rr_moderator.specs.Queries.{Answer, answer_of_named, answer_of_table, asked_answer, cash_answer, due_answer, holds_answer, iou_answer, limit_answer, order_answer, phase_answer, price_answer, privates_answer, query_text, reply_of, stamp_answer, trains_answer, turns_answer, worth_answer}
+use Rattle.rr_moderator.specs.Serving.{reply_to}
+use Rattle.rr_moderator.proofs.ServingLemmas.{reply_refused}
+use Rattle.rr_moderator.specs.Queries.{Answer, MayRefuse, MeetsQuery, answer_of_named, answer_of_table, asked_answer, book_answer, cash_answer, due_answer, holds_answer, iou_answer, limit_answer, order_answer, phase_answer, price_answer, privates_answer, query_answer, query_text, reply_of, stamp_answer, trains_answer, turns_answer, allocates, worth_answer}
 
 counts_kit : (old new : ℕ) (fault : kit.Fault) → new ≡ old → CountsTold old new (tells_failure (refusal_of (F.Kit fault)))
 unfolding digits
@@ -196,6 +198,12 @@ unfolding digits
 table_answer_calm ask None calm = (refl, refl, refl)
 table_answer_calm ask (Some t) calm = calm t
 
+-- the reply to `book`, by whether the turn's entries can be read
+book_calm : (b : Bool) (words : List (List ℕ)) → SaysNeither (reply_of (if b then Ok words else Err F.TurnNotKept))
+unfolding digits
+book_calm true words = words_calm words
+book_calm false words = (refl, refl, refl)
+
 pub query_calm : (kit : Kit) (tables : World) (query : Query) → SaysNeither (query_text kit tables query)
 query_calm kit tables Q.Tables = words_calm _
 query_calm kit tables (Q.Stamp table) = table_answer_calm stamp_answer (table_named tables table) (λ t. (refl, refl, refl))
@@ -212,3 +220,14 @@ query_calm kit tables (Q.Phase table) = table_answer_calm (phase_answer kit) (ta
 query_calm kit tables (Q.Trains table of) = table_answer_calm (trains_answer kit of) (table_named tables table) (λ t. words_calm _)
 query_calm kit tables (Q.Iou table) = table_answer_calm (iou_answer kit) (table_named tables table) (λ t. (refl, refl, refl))
 query_calm kit tables (Q.Worth table player) = table_answer_calm (worth_answer kit player) (table_named tables table) (λ t. named_calm _)
+query_calm kit tables (Q.Book table turn) = table_answer_calm (book_answer kit turn) (table_named tables table) (λ t. book_calm _ _)
+
+-- and so is each reply to a query
+pub meets_calm : (kit : Kit) (tables : World) (query : Query) (outcome : Result (List ℕ) Fault) → MeetsQuery kit tables query outcome → SaysNeither (reply_to outcome)
+meets_calm kit tables query (Ok text) meets = subst SaysNeither (sym meets.1) (query_calm kit tables query)
+meets_calm kit tables query (Err fault) meets = by_memory (allocates query) meets
+  where
+    by_memory : (b : Bool) → MayRefuse b (query_answer kit tables query) fault → SaysNeither (refusal_of fault)
+    by_memory true (inl is) = subst SaysNeither (sym (reply_refused (query_answer kit tables query) fault is)) (query_calm kit tables query)
+    by_memory true (inr wants) = subst (λ (f : Fault). SaysNeither (refusal_of f)) (sym wants.1) memory_calm
+    by_memory false is = subst SaysNeither (sym (reply_refused (query_answer kit tables query) fault is)) (query_calm kit tables query)

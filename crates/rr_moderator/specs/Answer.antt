@@ -1,6 +1,5 @@
 -- The replies to what isn't refused.
 use Rattle.std.specs.Prelude.{ℕ, Bool, true, false, List, [], ◌∷◌, ◌++◌, Option, None, Some, codes, decimal, filter, if◌then◌else◌}
-use Rattle.std.specs.List.{flat_map}
 use Rattle.std.specs.Fmt.{signed_decimal}
 use Rattle.rr_roster.specs.declared.company.Private.{Private}
 use Rattle.rr_roster.specs.Company.{private_name}
@@ -13,16 +12,13 @@ use Rattle.rr_code.specs.declared.command.Command.{Command}
 use Rattle.rr_code.specs.declared.command.Command.TheVariants.{Order}
 use Rattle.rr_orders.specs.declared.order.Order.TheVariants as O
 use Rattle.rr_orders.specs.Texts.{added}
+use Rattle.rr_entries.specs.Words.{spaced}
 use Rattle.rr_turns.specs.declared.request.Request.{Request}
 use Rattle.rr_turns.specs.declared.request.Request.TheVariants.{Play}
 use Rattle.rr_kit.specs.declared.kit.Kit.{Kit}
 use Rattle.rr_game.specs.Play.{play}
 use Rattle.rr_store.specs.World.{TableState}
 use Rattle.rr_moderator.specs.declared.summary.Summary.{Summary}
-
--- words, each behind a space
-abbrev pub spaced : List (List ℕ) → List ℕ
-spaced words = flat_map (λ word. codes " " ++ word) words
 
 -- the request runs a corporation's trains
 abbrev pub runs_trains : Request Command → Bool

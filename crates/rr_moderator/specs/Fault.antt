@@ -10,6 +10,8 @@ use Rattle.rr_books.specs.Refusal as numbers
 use Rattle.rr_pages.specs.Faults.{clause_of}
 use Rattle.rr_code.specs.declared.fault.Fault as code
 use Rattle.rr_code.specs.declared.fault.Fault.TheVariants as C
+use Rattle.rr_game.specs.declared.history.fault.Fault as hist
+use Rattle.rr_game.specs.declared.history.fault.Fault.TheVariants as H
 use Rattle.rr_tables.specs.declared.records.fault.Fault as judge
 use Rattle.rr_store.specs.declared.fault.Fault as store
 use Rattle.rr_store.specs.declared.fault.Fault.TheVariants as T
@@ -159,6 +161,11 @@ of_store T.OutOfMemory = F.OutOfMemory
 -- a request that isn't lawful at its table
 abbrev pub of_rules : judge.Fault → Fault
 of_rules fault = of_store (stored.of_rules fault)
+
+-- why the entries of a turn can't be read
+abbrev pub of_history : hist.Fault → Fault
+of_history H.TurnNotKept = F.TurnNotKept
+of_history fault = F.OutOfMemory
 
 abbrev pub of_search : search.Fault → Fault
 of_search R.NoCertificate = F.NoCertificate

@@ -1,5 +1,5 @@
 -- The answers to queries, each from what its table keeps.
-use Rattle.std.specs.Prelude.{◌≡◌, ℕ, List, [], ◌∷◌, ◌++◌, Option, None, Some, Result, Ok, Err, MatchResult, codes, decimal, map, option_map, replicate}
+use Rattle.std.specs.Prelude.{◌≡◌, ◌⊎◌, ℕ, Bool, true, false, List, [], ◌∷◌, ◌++◌, Option, None, Some, Result, Ok, Err, MatchResult, codes, decimal, map, option_map, replicate, if◌then◌else◌}
 use Rattle.std.specs.List.{flat_map}
 use Rattle.std.specs.Fmt.{signed_decimal}
 use Rattle.rr_roster.specs.declared.company.Corp.{Corp}
@@ -34,6 +34,8 @@ use Rattle.rr_game.specs.Play.{play, players_of}
 use Rattle.rr_game.specs.Queries.{due, holding, quote, worth}
 use Rattle.rr_turns.specs.Turns.{ended_turns}
 use Rattle.rr_game.specs.History.Playing.{ends_turn}
+use Rattle.rr_game.specs.History.TurnEntries.{is_readable_turn, turn_entries}
+use Rattle.rr_entries.specs.Words.{book_words}
 use Rattle.rr_store.specs.World.{TableState, World, names, table_named}
 
 -- the words of an answer, or why there are none
@@ -144,6 +146,11 @@ worth_words kit book seat = signed_decimal (worth kit book seat) ∷ []
 abbrev pub worth_answer : Kit → List ℕ → TableState → Answer
 worth_answer kit player t = answer_of_named (option_map (worth_words kit (book_of kit t)) (seat_of (players_of t.commands) player))
 
+-- the entries that the commands of a turn added
+abbrev pub book_answer : Kit → ℕ → TableState → Answer
+book_answer kit turn t =
+    if is_readable_turn kit t turn then Ok (book_words (players_of t.commands) (turn_entries kit t.commands turn)) else Err F.TurnNotKept
+
 -- the answer to a query
 abbrev pub query_answer : Kit → World → Query → Answer
 query_answer kit tables Q.Tables = Ok (names tables)
@@ -161,6 +168,7 @@ query_answer kit tables (Q.Phase table) = answer_of_table (phase_answer kit) (ta
 query_answer kit tables (Q.Trains table of) = answer_of_table (trains_answer kit of) (table_named tables table)
 query_answer kit tables (Q.Iou table) = answer_of_table (iou_answer kit) (table_named tables table)
 query_answer kit tables (Q.Worth table player) = answer_of_table (worth_answer kit player) (table_named tables table)
+query_answer kit tables (Q.Book table turn) = answer_of_table (book_answer kit turn) (table_named tables table)
 
 -- why there is no answer, if there is none
 abbrev pub fault_of : Answer → Option Fault
@@ -185,3 +193,23 @@ abbrev pub Writes : {A : Type 0} → Answer → Result A Fault → List ℕ → 
 Writes answer result text = MatchResult result
     (λ _. (fault_of answer ≡ None) × (reply_of answer ≡ text ++ codes "\n"))
     (λ fault. fault_of answer ≡ Some fault)
+
+-- a fault of an answer: its own, or that memory ran out if it has none
+abbrev pub MayRefuseBy : Answer → Fault → Type 0
+MayRefuseBy answer fault = (fault_of answer ≡ Some fault) ⊎ ((fault_of answer ≡ None) × (fault ≡ F.OutOfMemory))
+
+-- whether the answer to a query may need more memory: only that of `book` has no bound
+abbrev pub allocates : Query → Bool
+allocates (Q.Book table turn) = true
+allocates query = false
+
+-- the faults that may answer a query, by whether its answer may need more memory
+abbrev pub MayRefuse : Bool → Answer → Fault → Type 0
+MayRefuse true answer fault = MayRefuseBy answer fault
+MayRefuse false answer fault = fault_of answer ≡ Some fault
+
+-- what a query may come to: the text of its answer, or why there is none
+abbrev pub MeetsQuery : Kit → World → Query → Result (List ℕ) Fault → Type 0
+MeetsQuery kit tables query outcome = MatchResult outcome
+    (λ text. (query_verdict kit tables query ≡ None) × (text ≡ query_text kit tables query))
+    (λ fault. MayRefuse (allocates query) (query_answer kit tables query) fault)

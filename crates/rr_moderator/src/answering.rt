@@ -1,11 +1,11 @@
 // The answers to queries, and the reply to an accepted request.
 ghost use Rattle.rr_moderator.specs.declared.reply.TheConstants.{REPLY_ROOM};
-ghost use Rattle.std.specs.Prelude.{◌≡◌, ◌≢◌, false, ◌+◌, ◌*◌, ◌≤◌, ◌++◌, List, ℕ, [], ◌∷◌, MatchResult, codes, decimal, filter, length, map, replicate, slice_get, take};
+ghost use Rattle.std.specs.Prelude.{◌≡◌, ◌≢◌, false, ◌+◌, ◌*◌, ◌≤◌, ◌++◌, List, ℕ, [], ◌∷◌, None, MatchOption, MatchResult, OnOk, codes, decimal, filter, length, map, replicate, slice_get, take};
 ghost use Rattle.std.specs.Option.{option_copied};
 ghost use Rattle.rr_books.specs.Shares.{is_at};
 ghost use Rattle.rr_roster.specs.Company.{corp_name, kind_name, private_name};
 ghost use Rattle.rr_books.specs.State.{holder_in};
-ghost use Rattle.rr_moderator.specs.Answer.{answer_of, asked_words, owned, price_words, runs_trains, spaced};
+ghost use Rattle.rr_moderator.specs.Answer.{answer_of, asked_words, owned, price_words, runs_trains};
 ghost use Rattle.rr_game.specs.History.Tables.{IsPlayed, kept_in};
 ghost use Rattle.rr_store.specs.Holding.{GamesArePlayed, held_of};
 ghost use Rattle.rr_store.specs.World.{names};
@@ -14,20 +14,27 @@ ghost use Rattle.rr_books.specs.Book.{Book, train_holder};
 ghost use Rattle.rr_desk.specs.Position.Position.{IsPositionOf};
 ghost use Rattle.rr_orders.specs.Texts.{added};
 ghost use Rattle.rr_game.specs.Names.{player_word, trains_place};
-ghost use Rattle.rr_moderator.specs.Queries.{Writes, asked_answer, cash_answer, due_answer, due_words, holds_answer, iou_answer, limit_answer, order_answer, phase_answer, price_answer, privates_answer, query_answer, query_text, query_verdict, reply_of, stamp_answer, step_word, trains_answer, trains_words, turns_answer, worth_answer};
+ghost use Rattle.rr_moderator.specs.Queries.{MayRefuseBy, MeetsQuery, Writes, asked_answer, book_answer, cash_answer, due_answer, due_words, holds_answer, iou_answer, limit_answer, order_answer, phase_answer, price_answer, privates_answer, query_answer, reply_of, stamp_answer, step_word, trains_answer, trains_words, turns_answer, allocates, worth_answer};
+ghost use Rattle.rr_moderator.specs.Fault.{of_history};
+ghost use Rattle.rr_moderator.specs.Serving.{outcome_of};
+ghost use Rattle.rr_entries.specs.Words.{book_words, joined, spaced};
+ghost use Rattle.rr_game.specs.History.TurnEntries.{book_verdict, turn_entries};
 
 use crate::fault::Fault;
 use crate::reply::Reply;
 use rr_books::{Cell, Cert, Money, Place, Seat};
 use rr_code::{Account, Command, Owner, Query, Request, TrainHolder};
+use rr_desk::Entries;
 use rr_disk::Disk;
-use rr_game::{Due, Game};
+use rr_entries::{text_of, without_first_separator};
+use rr_game::{Due, Game, history};
 use rr_kit::Kit;
 use rr_market::operations::TurnStep;
 use rr_orders::Order;
 use rr_roster::{Corp, Kind, Private};
 use rr_store::{Store, Table};
 use rr_words::Name;
+use std::alloc::{AllocError, Global};
 
 impl Reply {
     /// The reply to an accepted request, as far as it tells the table and its new stamp.
@@ -83,25 +90,99 @@ pub(crate) fn runs_trains(request: &Request<Command>) -> bool
     )
 }
 
-/// Writes the answer to a query. It asks for no memory.
+/// Writes the answer to a query. Only `book` allocates memory.
 ///
 /// # Errors
-/// `NoSuchTable`, and then `NoSuchName` where the table has no player of that name.
+/// `NoSuchTable`; then `NoSuchName` if the table has no player of that name, or `TurnNotKept` if the turn's entries can't
+/// be read; then, only for `book`, `OutOfMemory`.
 pub(crate) fn answer<D: Disk + Drop>(
+    alloc: Global,
     store: &Store<D>,
     query: &Query,
     reply: &mut Reply,
 ) -> Result<(), Fault>
     requires { (held_of store.now).broken ≡ false }
-    ensures { GamesArePlayed store.now → MatchResult result
-        (λ _. (query_verdict (held_of store.now).kit (held_of store.now).tables query.now ≡ None)
-        × (reply.new ≡ query_text (held_of store.now).kit (held_of store.now).tables query.now))
-        (λ fault. query_verdict (held_of store.now).kit (held_of store.now).tables query.now ≡ Some fault) }
+    ensures { GamesArePlayed store.now →
+        MeetsQuery (held_of store.now).kit (held_of store.now).tables query.now (outcome_of result reply.new) }
 {
     reply.clear();
-    write_answer(store, query, reply)?;
-    reply.text(b"\n");
+    match book_asked(query) {
+        Some((table, turn)) => write_book(alloc, store, table, turn, reply),
+        None => {
+            write_answer(store, query, reply)?;
+            reply.text(b"\n");
+            Ok(())
+        }
+    }
+}
+
+/// The table and the turn, if the query asks for a turn's entries.
+fn book_asked(query: &Query) -> Option<(&Name, u64)>
+    ensures { MatchOption result (allocates query.now ≡ false) (λ asked. query.now ≡ Query.Book asked.0.now asked.1) }
+{
+    match query {
+        Query::Book { table, turn } => Some((table, *turn)),
+        _ => None,
+    }
+}
+
+/// Writes the answer to `book`, with the line feed.
+fn write_book<D: Disk + Drop>(
+    alloc: Global,
+    store: &Store<D>,
+    table: &Name,
+    turn: u64,
+    reply: &mut Reply,
+) -> Result<(), Fault>
+    requires whole { (held_of store.now).broken ≡ false }
+    requires empty { reply.old ≡ [] }
+    ensures { GamesArePlayed store.now →
+        MeetsQuery (held_of store.now).kit (held_of store.now).tables (Query.Book table.now turn) (outcome_of result reply.new) }
+{
+    let table = store.table(table)?;
+    let entries = entries_of(alloc, table, turn, store.kit())?;
+    write_turn(alloc, table.game(), entries.as_slice(), reply)?;
     Ok(())
+}
+
+/// The entries that the commands of a table's turn added.
+fn entries_of(alloc: Global, table: &Table, turn: u64, kit: &Kit) -> Result<Vec<Entries>, Fault>
+    ensures { IsPlayed kit.now table.now → MatchResult result
+        (λ all. (book_verdict kit.now (kept_in table.now) turn ≡ None)
+        × (joined all.items ≡ turn_entries kit.now (kept_in table.now).commands turn))
+        (λ fault. MayRefuseBy (book_answer kit.now turn (kept_in table.now)) fault) }
+{
+    match table.book(alloc, turn, kit) {
+        Ok(entries) => Ok(entries),
+        Err(fault) => Err(of_history(fault)),
+    }
+}
+
+/// Why the entries of a turn can't be read.
+fn of_history(fault: history::Fault) -> Fault
+    ensures { result ≡ of_history fault }
+{
+    match fault {
+        history::Fault::TurnNotKept => Fault::TurnNotKept,
+        _ => Fault::OutOfMemory,
+    }
+}
+
+/// Writes the entries of a turn's commands, with the line feed.
+fn write_turn(
+    alloc: Global,
+    game: &Game,
+    all: &[Entries],
+    reply: &mut Reply,
+) -> Result<(), AllocError>
+    requires { reply.old ≡ [] }
+    ensures { OnOk result (reply.new ≡ answer_of (book_words game.now.players (joined all.now)) ++ codes "\n") }
+{
+    let text = text_of(alloc, game.players(), all)?;
+    reply.text(b"=");
+    reply.push(without_first_separator(text.as_slice()))?;
+    write_nothing(reply);
+    reply.push(b"\n")
 }
 
 /// Writes the answer to a query, but for the line feed.
@@ -112,6 +193,7 @@ fn write_answer<D: Disk + Drop>(
 ) -> Result<(), Fault>
     requires whole { (held_of store.now).broken ≡ false }
     requires empty { reply.old ≡ [] }
+    requires bounded { allocates query.now ≡ false }
     ensures answer { GamesArePlayed store.now → Writes (query_answer (held_of store.now).kit (held_of store.now).tables query.now) result reply.new }
     ensures bounded { length reply.new ≤ 1100 }
 {
@@ -170,6 +252,8 @@ fn write_answer<D: Disk + Drop>(
         Query::Worth { table, player } => {
             write_worth(store.table(table)?, player, store.kit(), reply)
         }
+        // `write_book` writes this answer, which has no bound.
+        Query::Book { .. } => unreachable!(),
     }
 }
 
@@ -557,7 +641,6 @@ fn write_owned(game: &Game, place: Place, private: Private, reply: &mut Reply)
 
 /// Writes the mark of an empty answer, if no word was written.
 fn write_nothing(reply: &mut Reply)
-    requires { length reply.old ≤ 4000 }
     ensures text { (words : List (List ℕ)) → reply.old ≡ codes "=" ++ spaced words → reply.new ≡ answer_of words }
     ensures bounded { length reply.new ≤ length reply.old + 2 }
 {

@@ -1,5 +1,5 @@
 ghost use Rattle.rr_moderator.specs.declared.reply.TheConstants.{REPLY_ROOM};
-ghost use Rattle.std.specs.Prelude.{◌≡◌, ◌+◌, ◌≤◌, [], ◌++◌, codes, length, decimal, IfOk};
+ghost use Rattle.std.specs.Prelude.{◌≡◌, ◌+◌, ◌≤◌, [], ◌++◌, codes, length, decimal, IfOk, OnErr, OnOk};
 ghost use Rattle.std.specs.Fmt.{signed_decimal};
 
 use arrayvec::ArrayVec;
@@ -11,7 +11,7 @@ use std::marker::Model;
 /// The most bytes of a reply: the longest tells the sheet of a run that a line has room for.
 pub const REPLY_ROOM: usize = LONGEST_LINE + 192;
 
-/// The bytes of one reply. Its room is taken when it is made, so that writing a reply asks for no memory.
+/// The bytes of one reply. Its room is taken when it is made, so only `push` allocates memory.
 #[derive(Drop)]
 pub struct Reply {
     bytes: Vec<u8>,
@@ -59,6 +59,18 @@ impl Reply {
         ensures len { length self.new ≡ length self.old + length text.now }
     {
         self.bytes.extend_from_slice(text).unwrap();
+    }
+
+    /// Writes bytes after the others, and takes more room if they need it.
+    ///
+    /// # Errors
+    /// `AllocError`; then the reply is as it was.
+    pub(crate) fn push(&mut self, text: &[u8]) -> Result<(), AllocError>
+        ensures ok { OnOk result (self.new ≡ self.old ++ text.now) }
+        ensures err { OnErr result (self.new ≡ self.old) }
+    {
+        self.bytes.extend_from_slice(text)?;
+        Ok(())
     }
 
     /// A word behind a space.

@@ -90,8 +90,13 @@ fn check_next_lines<D: Disk + Drop>(rt: &(impl Abort + AllocGlobal), disk: D) {
         is_answered(&mut again, b"stamp t1", b"= 2\n"),
         is_answered(&mut again, b"2 t1 buy bob", b"ok t1 3\n"),
         is_written(rt.alloc(), &mut again, b"privates t1 bob", b"= C&SL\n"),
+        is_answered(
+            &mut again,
+            b"book t1 1",
+            b"= move SV ann ; pay ann bank 20\n",
+        ),
     ];
-    assert!(rt; is_right == [true; 3]);
+    assert!(rt; is_right == [true; 4]);
 }
 
 #[test]

@@ -7,6 +7,7 @@ ghost use Rattle.rr_game.specs.Names.{amount_in, price_in};
 use crate::fixtures::ROSTER;
 use rr_books::Refusal;
 use rr_code::{Command, Players};
+use rr_desk::Entries;
 use rr_game::{Game, Kit, Parts};
 use rr_orders::Order;
 use rr_words::spelling::Spell;
@@ -68,6 +69,20 @@ pub(crate) fn step(
     assert!(rt; game.played() < 4096);
     assert!(rt; is_small(&command));
     game.step(alloc, &command, kit)
+}
+
+/// The entries that a command adds to a game's book.
+pub(crate) fn entries(
+    rt: &impl Abort,
+    alloc: Global,
+    kit: &Kit,
+    game: &Game,
+    words: &[u8],
+) -> Result<Entries, Refusal> {
+    let command = command(rt, words);
+    assert!(rt; game.played() < 4096);
+    assert!(rt; is_small(&command));
+    game.entries(alloc, &command, kit)
 }
 
 /// Two players buy the privates, and b sets the B&O's par; a floats the PRR, which is due as the first operating round

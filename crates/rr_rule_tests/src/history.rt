@@ -1,6 +1,7 @@
 //! A table that is taken back.
 ghost use Rattle.rr_game.specs.History.Verdict.{IsOfForm};
 
+use crate::entries::have_words;
 use crate::games::{command, kit, players, spelled};
 use rr_code::Command;
 use rr_game::Game;
@@ -110,6 +111,22 @@ impl Club {
         let stamp = self.table.stamp();
         let change = self.table.judge(alloc, stamp, request, &self.kit);
         change.expect(rt, "a lawful request").plays()
+    }
+
+    /// Whether the entries of a turn have these words, or are refused so.
+    fn reads(
+        &self,
+        rt: &impl Abort,
+        alloc: Global,
+        turn: u64,
+        wanted: Result<&[u8], Fault>,
+    ) -> bool {
+        let players = self.table.game().players();
+        match (self.table.book(alloc, turn, &self.kit), wanted) {
+            (Ok(books), Ok(words)) => have_words(rt, alloc, players, books.as_slice(), words),
+            (Err(found), Err(fault)) => found == fault,
+            _ => false,
+        }
     }
 
     /// Goes on with this floor, and stamp 128.
@@ -266,13 +283,15 @@ enum Step {
     Judges(&'static [u8]),
     /// What is asked is worked out by so many plays.
     Plays(Ask, usize),
+    /// The entries of this turn have these words, or are refused so.
+    Reads(u64, Result<&'static [u8], Fault>),
     /// The table goes on with this floor.
     Resumes(u64),
     /// This holds of it.
     Then(Fact),
 }
 
-use Step::{Gets, Judges, Plays, Resumes, Takes, Then};
+use Step::{Gets, Judges, Plays, Reads, Resumes, Takes, Then};
 
 fn is_right(rt: &impl Abort, alloc: Global, club: &mut Club, step: Step) -> bool {
     match step {
@@ -288,6 +307,7 @@ fn is_right(rt: &impl Abort, alloc: Global, club: &mut Club, step: Step) -> bool
             true
         }
         Plays(ask, count) => club.plays_of(rt, alloc, ask) == count,
+        Reads(turn, wanted) => club.reads(rt, alloc, turn, wanted),
         Resumes(floor) => {
             club.resume(floor);
             true
@@ -396,6 +416,31 @@ fn a_turn_under_way_is_dropped(rt: HostRuntime) {
     assert!(rt; goes_so(rt, rt.alloc(), club, &TURN_UNDER_WAY));
 }
 
+static READ: [Step; 15] = [
+    Reads(1, Ok(b"")),
+    Takes(Play(b"buy a")),
+    Takes(Play(b"pass b")),
+    Reads(1, Ok(b" move SV a ; pay a bank 20")),
+    Reads(2, Ok(b"")),
+    Reads(3, Ok(b"")),
+    Reads(4, Err(Fault::TurnNotKept)),
+    Takes(Back(1)),
+    Takes(Play(b"buy b")),
+    Reads(2, Ok(b" move C&SL b ; pay b bank 40")),
+    Takes(Forget(1)),
+    Reads(0, Err(Fault::TurnNotKept)),
+    Reads(1, Err(Fault::TurnNotKept)),
+    Reads(2, Ok(b" move C&SL b ; pay b bank 40")),
+    Reads(3, Ok(b"")),
+];
+
+#[test]
+fn the_entries_of_kept_turns_are_read(rt: HostRuntime) {
+    let rt = &rt;
+    let club = six_players(rt, rt.alloc());
+    assert!(rt; goes_so(rt, rt.alloc(), club, &READ));
+}
+
 static JUDGED: [Step; 2] = [Judges(b"pass a"), Then(Has((2, 0, 1, 2)))];
 
 #[test]
@@ -414,6 +459,7 @@ fn laws_are_called() {
     rr_game::history::laws::back_to_the_present_turn();
     rr_game::history::laws::accepted_turns_are_kept();
     rr_game::history::laws::back_plays_few();
+    rr_game::history::laws::turns_make_the_book();
     rr_game::history::laws::spacing();
     rr_turns::laws::stamps_never_fall::<u8>();
     rr_turns::laws::floors_never_fall::<u8>();

@@ -1,21 +1,25 @@
 -- What always holds of the tables of a game.
-use Rattle.std.specs.Prelude.{◌≡◌, ℕ, ◌+◌, ◌<◌, ◌≤◌, List, [], ◌∷◌, ◌++◌, Option, None, length, take}
+use Rattle.std.specs.Prelude.{◌≡◌, ℕ, ◌+◌, ◌<◌, ◌≤◌, true, List, [], ◌∷◌, ◌++◌, Option, None, length, map, take}
+use Rattle.std.specs.List.{range_with_len}
 use Rattle.std.specs.Option.{option_map_or}
 use Rattle.rr_kit.specs.declared.kit.Kit.{Kit}
 use Rattle.rr_code.specs.declared.command.Command.{Command}
+use Rattle.rr_entries.specs.Words.{joined}
 use Rattle.rr_game.specs.Keeping.{IsGameOf}
 use Rattle.rr_turns.specs.declared.request.Request.{Request}
 use Rattle.rr_turns.specs.declared.request.Request.TheVariants.{Back}
 use Rattle.rr_turns.specs.Judgement.{HasOneVerdict, IsVerdict}
 use Rattle.rr_turns.specs.Kept.{Kept, NamesAKeptTurn, kept_after}
 use Rattle.rr_turns.specs.Ends.{kept_at}
-use Rattle.rr_turns.specs.Turns.{EndsWithATurn, first_turns}
+use Rattle.rr_turns.specs.Turns.{EndsWithATurn, ended_turns, first_turns}
 use Rattle.rr_game.specs.declared.game.Game.{Game}
 use Rattle.rr_game.specs.declared.history.snapshots.TheConstants.{SNAPSHOT_SPACING}
 use Rattle.rr_game.specs.declared.history.table.Table.{Table}
+use Rattle.rr_game.specs.Play.{begins_with_opening, play}
 use Rattle.rr_game.specs.Turning.{ends_turn}
 use Rattle.rr_game.specs.History.Snapshots.{IsNearest}
 use Rattle.rr_game.specs.History.Tables.{HasItsSnapshots, IsPlayed, IsTableOf, kept_in, turns_in}
+use Rattle.rr_game.specs.History.TurnEntries.{turn_entries}
 use Rattle.rr_game.specs.History.Verdict.{request_judgement}
 
 -- a table that accepts one request more is that of all of them
@@ -66,3 +70,9 @@ BackPlaysFew =
     (kit : Kit) (k : ℕ) (table : Table) (nearest : Option Game) → IsPlayed kit table → HasItsSnapshots table
     → table.floor ≤ k → k ≤ turns_in table → IsNearest (kept_at table.game.ends k) table.kept.snapshots nearest
     → kept_at table.game.ends k < option_map_or (λ (game : Game). game.played) nearest 0 + SNAPSHOT_SPACING
+
+-- the entries of all turns, the turn under way included, make the book
+abbrev pub TurnsMakeTheBook : Type 0
+TurnsMakeTheBook =
+    (kit : Kit) (commands : List Command) → begins_with_opening commands ≡ true
+    → joined (map (turn_entries kit commands) (range_with_len 0 (ended_turns (ends_turn kit) commands + 2))) ≡ (play kit commands).book

@@ -1,6 +1,6 @@
 //! What always holds of the tables of a game. The calls do nothing: their contracts hold of all tables.
 ghost use Rattle.std.specs.Prelude.{◌≡◌};
-ghost use Rattle.rr_game.specs.History.Laws.{AcceptedTurnsAreKept, BackGoesToItsTurn, BackKeepsItsCount, BackPlaysFew, BackToThePresentTurn, RequestsHaveOneVerdict, TablesGoOn};
+ghost use Rattle.rr_game.specs.History.Laws.{AcceptedTurnsAreKept, BackGoesToItsTurn, BackKeepsItsCount, BackPlaysFew, BackToThePresentTurn, RequestsHaveOneVerdict, TablesGoOn, TurnsMakeTheBook};
 
 use crate::history::snapshots::SNAPSHOT_SPACING;
 
@@ -39,6 +39,11 @@ pub fn requests_have_one_verdict()
 /// A table that has its snapshots is taken back by fewer commands than stand between two of them.
 pub fn back_plays_few()
     ensures { BackPlaysFew }
+{}
+
+/// The entries of all turns, the turn under way included, joined in order make the table's book.
+pub fn turns_make_the_book()
+    ensures { TurnsMakeTheBook }
 {}
 
 /// How many commands stand between two snapshots, in numbers.

@@ -27,6 +27,10 @@ fn trains(table: Name, of: TrainHolder) -> Query {
     Query::Trains { table, of }
 }
 
+fn book(table: Name, turn: u64) -> Query {
+    Query::Book { table, turn }
+}
+
 // The request, where ann does what is played.
 fn by_ann(rt: &impl Abort, request: Request<Deed>) -> Request<Command<'static>> {
     match request {
@@ -83,6 +87,17 @@ fn reads_queries_of_trains_and_worth(rt: HostRuntime) {
         ("trains t1 pool", trains(table, TrainHolder::Pool)),
         ("trains t1 B&M", trains(table, TrainHolder::Corp(Corp::Bm))),
         ("worth t1 ann", Query::Worth { table, player }),
+    ];
+    check_queries(&rt, &queries);
+}
+
+#[test]
+fn reads_queries_of_a_turn(rt: HostRuntime) {
+    let table = table(&rt);
+    let queries = [
+        ("book t1 0", book(table, 0)),
+        ("book t1 17", book(table, 17)),
+        ("book t1 9999999999", book(table, 9_999_999_999)),
     ];
     check_queries(&rt, &queries);
 }
@@ -271,7 +286,19 @@ iou t1 bank
 worth t1
 worth t1 PRR
 worth t1 pool
-worth t1 ann bob",
+worth t1 ann bob
+book
+book t1
+book t1\x20
+book t1 x
+book t1 01
+book t1 -1
+book t1 12345678901
+book t1 1 2
+book t1 1\x20
+book 1 t1
+book T1 1
+Book t1 1",
     );
 }
 

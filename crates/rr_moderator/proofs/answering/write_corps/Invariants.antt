@@ -1,6 +1,6 @@
 use Rattle.std.proofs.Common.{◌≡◌, ◌+◌, ◌*◌, ◌≤◌, ◌++◌, length, map, take, codes}
 use Rattle.rr_roster.specs.Company.{corp_name}
-use Rattle.rr_moderator.specs.Answer.{spaced}
+use Rattle.rr_entries.specs.Words.{spaced}
 use Rattle.rr_moderator.proofs.answering.write_corps.Given as goal
 
 abbrev pub invariant-loop-corp : goal.invariant-loop-corp

@@ -1,6 +1,6 @@
 use Rattle.std.proofs.Common.{◌≡◌, ◌+◌, ◌*◌, ◌≤◌, ◌++◌, length, replicate}
 use Rattle.rr_roster.specs.Company.{kind_name}
-use Rattle.rr_moderator.specs.Answer.{spaced}
+use Rattle.rr_entries.specs.Words.{spaced}
 use Rattle.rr_moderator.proofs.answering.write_kinds.Given as goal
 
 abbrev pub invariant-loop-written : goal.invariant-loop-written

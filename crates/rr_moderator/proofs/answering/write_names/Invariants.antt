@@ -1,7 +1,7 @@
 use Rattle.std.proofs.Common.{◌≡◌, ◌+◌, ◌*◌, ◌≤◌, ◌++◌, length, take, codes}
 use Rattle.rr_store.specs.Holding.{held_of}
 use Rattle.rr_store.specs.World.{names}
-use Rattle.rr_moderator.specs.Answer.{spaced}
+use Rattle.rr_entries.specs.Words.{spaced}
 use Rattle.rr_moderator.proofs.answering.write_names.Given as goal
 
 abbrev pub invariant-loop-place : goal.invariant-loop-place

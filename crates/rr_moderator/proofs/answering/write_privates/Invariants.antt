@@ -3,7 +3,7 @@ use Rattle.rr_roster.specs.Company.{private_name}
 use Rattle.rr_books.specs.declared.certificates.Cert.TheVariants as C
 use Rattle.rr_books.specs.Shares.{is_at, privates}
 use Rattle.rr_books.specs.State.{holder_in}
-use Rattle.rr_moderator.specs.Answer.{spaced}
+use Rattle.rr_entries.specs.Words.{spaced}
 use Rattle.rr_moderator.proofs.answering.write_privates.Given as goal
 
 abbrev pub invariant-loop-private : goal.invariant-loop-private

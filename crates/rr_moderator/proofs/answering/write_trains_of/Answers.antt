@@ -3,7 +3,7 @@ use Rattle.rr_roster.specs.declared.company.Kind.TheVariants.{Two}
 use Rattle.rr_roster.specs.Company.{kinds, kind_name}
 use Rattle.rr_books.specs.Book.{train_holder}
 use Rattle.rr_game.specs.Names.{trains_place}
-use Rattle.rr_moderator.specs.Answer.{spaced}
+use Rattle.rr_entries.specs.Words.{spaced}
 use Rattle.rr_moderator.specs.Queries.{trains_of}
 use Rattle.rr_moderator.proofs.Listing.{words_more}
 use Rattle.rr_moderator.proofs.answering.write_trains_of.Goals as goal

@@ -4,7 +4,7 @@ use Rattle.rr_roster.specs.Company.{kinds}
 use Rattle.rr_books.specs.Book.{Book, train_holder}
 use Rattle.rr_desk.specs.Position.Position.{IsPositionOf}
 use Rattle.rr_game.specs.Names.{trains_place}
-use Rattle.rr_moderator.specs.Answer.{spaced}
+use Rattle.rr_entries.specs.Words.{spaced}
 use Rattle.rr_moderator.specs.Queries.{trains_of}
 use Rattle.rr_moderator.proofs.answering.write_trains_of.Given as goal
 

@@ -2,8 +2,8 @@ use Rattle.std.proofs.Common.{refl}
 use Rattle.std.proofs.lemmas.Result.{err_from_is_err_and}
 use Rattle.rr_game.specs.Play.{play, players_of}
 use Rattle.rr_game.proofs.Judging.{command_lawful, command_refused, unnamed, unplayed}
-use Rattle.rr_game.proofs.Playing.{stands, stepped}
-use Rattle.rr_game.proofs.game.Game.step.Goals as goal
+use Rattle.rr_game.proofs.Playing.{added, stands, stepped}
+use Rattle.rr_game.proofs.game.Game.apply.Goals as goal
 
 pub returns-in_err-judge_end-clause-verdict : goal.returns-in_err-judge_end-clause-verdict
 returns-in_err-judge_end-clause-verdict c accepted h =
@@ -39,3 +39,8 @@ returns-clause-game c accepted h =
     stands kit accepted c.args.command.now c.in_ok-act.act c.args.self.now c.in_ok-taken.taken.standing h c.in_ok-act.ensures.0
     (c.in_ok-taken.ensures.standing _ h.standing) in
     stepped kit accepted c.args.command.now c.args.self.now _ h refl refl standing (c.ends_after-ends.ensures.ends kit accepted h standing)
+
+pub returns-clause-entries : goal.returns-clause-entries
+returns-clause-entries c accepted h =
+    added c.args.kit.now accepted c.args.command.now c.in_ok-act.act c.args.self.now _ h c.in_ok-act.ensures.0
+    (c.in_ok-taken.ensures.entries (play c.args.kit.now accepted) h.standing)

@@ -1,0 +1,2 @@
+pub mod SeparatorLemmas
+pub mod OpeningLemmas
