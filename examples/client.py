@@ -4,9 +4,9 @@
 usage: client.py PROGRAM FILE
 
 FILE is a new store that `moderate format` made. The client opens a table for three players, lets each buy a private
-company, and prints what everybody has then, and what the last turn added to the table's book. It shows what a program that sends lines needs: one line out, one line
-back; a command sent only with the stamp that its table has; and a command whose reply was lost, which is neither
-forgotten nor played twice.
+company, and prints what everybody has then, and what the last turn added to the table's book. It shows what a program
+that sends lines needs: one line out, one line back; a command sent only with the stamp that its table has; and a
+command whose reply was lost, which is neither forgotten nor played twice.
 """
 import subprocess
 import sys
