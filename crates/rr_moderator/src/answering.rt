@@ -26,7 +26,7 @@ use rr_books::{Cell, Cert, Money, Place, Seat};
 use rr_code::{Account, Command, Owner, Query, Request, TrainHolder};
 use rr_desk::Entries;
 use rr_disk::Disk;
-use rr_entries::{text_of, without_first_separator};
+use rr_entries::text_of;
 use rr_game::{Due, Game, history};
 use rr_kit::Kit;
 use rr_market::operations::TurnStep;
@@ -180,7 +180,7 @@ fn write_turn(
 {
     let text = text_of(alloc, game.players(), all)?;
     reply.text(b"=");
-    reply.push(without_first_separator(text.as_slice()))?;
+    reply.push(text.as_slice())?;
     write_nothing(reply);
     reply.push(b"\n")
 }
