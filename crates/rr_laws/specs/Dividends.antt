@@ -24,11 +24,11 @@ use Rattle.rr_laws.specs.Sound.{ArePlayed}
 abbrev pub IsInTens : Money → Type 0
 IsInTens revenue = (tens : ℕ) × (revenue ≡ dollars (10 * tens))
 
--- with a right kit, what trains earned in the turn under way is so behind any commands, lawful or not
+-- with a right kit, what trains earned in the turn under way is so after any commands, lawful or not
 abbrev pub RevenuesAreInTens : Type 0
 RevenuesAreInTens = (texts : KitTexts) (kit : Kit) (commands : List Command) → SpellsKit texts kit → IsInTens (play kit commands).revenue
 
--- A revenue, which is so many tens, was shared by percents: the bank lost just what seats and pool were due, each seat
+-- A revenue, a multiple of ten, was shared by percentage: the bank lost just what seats and pool were due, each seat
 -- gained its part and the corporation the pool's, and nobody the offering's.
 pub record IsShared (before after : Book) (c : Corp) (revenue : Money) : Type 0 where
   pub tens : ℕ
@@ -36,7 +36,7 @@ pub record IsShared (before after : Book) (c : Corp) (revenue : Money) : Type 0 
   pub paid : IsPaidOut before after c (10 * tens)
   pub offering : OfferingIsNotPaid before c (10 * tens)
 
--- with such a kit, in each dividend that a table paid what the trains had earned in that turn, by the book, was shared so
+-- with such a kit, each dividend that a table paid shared so what the trains had earned in that turn, by the book
 abbrev pub DividendsWereRight : Type 0
 DividendsWereRight =
     (texts : KitTexts) (kit : Kit) (front rest : List Command) (c : Corp) → SpellsKit texts kit → ArePlayed kit (front ++ Order (PayOut c) ∷ rest)
@@ -48,7 +48,7 @@ HeldRevenuesWereWithheld =
     (kit : Kit) (front rest : List Command) (c : Corp) → ArePlayed kit (front ++ Order (Hold c) ∷ rest)
     → IsWithheld (play kit front).book (play kit (front ++ Order (Hold c) ∷ [])).book c (revenue_of kit (play kit front).book)
 
--- the command that runs a corporation's trains by the words of a sheet, with the words of a certificate if it is to be the best run
+-- the command that runs a corporation's trains by the words of a sheet; for a run as best, also with those of a certificate
 abbrev pub run_of : Corp → List ℕ → Option (List ℕ) → Command
 run_of c words None = Order (RunTrains c words)
 run_of c words (Some certificate) = Order (RunBest c words certificate)
@@ -71,8 +71,8 @@ runs_after n _ = n
 unfoldable pub runs_in_turn : List Command → ℕ
 runs_in_turn commands = fold runs_after 0 commands
 
--- the words are the sheet of a legal run of the corporation's trains over the board as this book has it, and what they earn is what
--- that run earns there
+-- the words are the sheet of a legal run of the corporation's trains over the board as this book has it, and they earn
+-- what that run earns there
 pub record IsLegalRun (kit : Kit) (book : Book) (c : Corp) (words : List ℕ) : Type 0 where
   pub sheet : List TrainWord
   pub spelled : SpellsSheet words sheet
@@ -81,9 +81,10 @@ pub record IsLegalRun (kit : Kit) (book : Book) (c : Corp) (words : List ℕ) : 
   pub written : IsSheetOf (net_now kit.board kit.tiles book c) sheet run
   pub pays : run_revenue kit book c words ≡ dollars (earned (net_now kit.board kit.tiles book c) run)
 
--- The corporation's trains have run just once in the turn under way: the commands are those before the run, the run, and those since.
--- No trains ran in that turn before it, none have run and no turn has ended since; the run was legal on the board as it lay then, and
--- if it was run as best no legal run earned more; and what the trains have earned by the book now is what that run earned there.
+-- The corporation's trains have run exactly once in the turn under way: the commands are those before the run, the run,
+-- and those since. No trains ran in that turn before it; none have run, and no turn has ended, since. The run was legal on
+-- the board as it lay then, and if it was run as best, no legal run earned more. What the trains have earned by the book
+-- now is what that run earned there.
 pub record HasRunOnce (kit : Kit) (commands : List Command) (c : Corp) : Type 0 where
   pub before : List Command
   pub words : List ℕ
@@ -101,12 +102,13 @@ pub record HasNotRun (kit : Kit) (commands : List Command) : Type 0 where
   pub none : runs_in_turn commands ≡ 0
   pub earns : revenue_of kit (play kit commands).book ≡ dollars 0
 
--- a dividend that a corporation pays after these commands: its trains have run once in this turn, and what that run earned is shared
+-- a dividend that a corporation pays after these commands: its trains have run once in this turn, and what that run
+-- earned is shared
 pub record IsRightDividend (kit : Kit) (front : List Command) (c : Corp) : Type 0 where
   pub ran : HasRunOnce kit front c
   pub shared : IsShared (play kit front).book (play kit (front ++ Order (PayOut c) ∷ [])).book c (revenue_of kit (play kit front).book)
 
--- one that it withholds: its trains have run once in this turn, or not; it gets what that run earned, or nothing
+-- one that it withholds: its trains have run once in this turn, or not at all; it gets what that run earned, or nothing
 pub record IsRightlyWithheld (kit : Kit) (front : List Command) (c : Corp) : Type 0 where
   pub ran : HasRunOnce kit front c ⊎ HasNotRun kit front
   pub withheld : IsWithheld (play kit front).book (play kit (front ++ Order (Hold c) ∷ [])).book c (revenue_of kit (play kit front).book)

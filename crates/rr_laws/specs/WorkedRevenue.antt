@@ -1,4 +1,4 @@
--- What the trains of a corporation earned, worked on a board of two hexes.
+-- What a corporation's trains earned, worked out by hand on a board of two hexes.
 use Rattle.std.specs.Prelude.{◌≡◌, ℕ, pos, List, [], ◌∷◌, ◌++◌, None}
 use Rattle.rr_roster.specs.declared.company.Corp.{Corp}
 use Rattle.rr_roster.specs.declared.company.Kind.TheVariants as K
@@ -23,7 +23,7 @@ use Rattle.rr_tiles.specs.declared.part.Kind.TheVariants.{City, OffBoard}
 use Rattle.rr_tiles.specs.declared.part.Part.TheVariants.{Centre}
 use Rattle.rr_laws.specs.Revenue.{revenue_of}
 
--- a hex with one centre, worth so much, that is linked with one edge
+-- a hex with one centre of this value, which is linked with one edge
 abbrev pub hex_with : List ℕ → ℕ → Kind → ℕ → ℕ → Hex
 hex_with name r kind value edge = record {
   name = name;
@@ -58,15 +58,15 @@ sheet = 50 ∷ 61 ∷ 49 ∷ 45 ∷ 50 ∷ []
 abbrev pub certificate : List ℕ
 certificate = 115 ∷ 49 ∷ []
 
--- the PRR ran for 30; the NYC buys the first 5 thereafter
+-- the PRR ran for 30; after that the NYC buys the first 5
 abbrev pub has_run : Book
 has_run = ready ++ says (A.Run Corp.Prr sheet) ∷ []
 
 abbrev pub first_five : Entry
 first_five = E.Train (train K.Five 1) (L.Corp Corp.Nyc)
 
--- A run is paid what it earned as it was run, whatever lies and is sold thereafter, and also as best; when the turn has ended
--- nothing is left of it, and the next corporation's run is judged by that one's own trains.
+-- A run is paid what it earned when it was run, whatever is sold after it, and so is a run as best. When the turn has ended
+-- nothing is left of it. The next corporation's run is judged by that corporation's own trains.
 pub record WorkedRevenue : Type 0 where
   pub before : revenue_of kit ready ≡ dollars 0
   pub ran : revenue_of kit has_run ≡ dollars 30

@@ -63,7 +63,7 @@ module _ {D : Type 0} (Honest Works : D → Type 0) (state : D → DiskState) (p
     And_then : (old between new : Store D) → Call old between → (held_of between).broken ≡ false → Returned between new
         → Returned old new
 
--- The programs that open the file have each a disk of its own, whose type may be its own, too.
+-- Each program that opens the file has a disk of its own, whose type may be its own, too.
 module _ (programs : Programs) where
   -- a program opened what its disk held, and made calls on its store, each of which returned
   pub record Ran (p : programs.Program) (disk : programs.Disk p) (last : Store (programs.Disk p)) : Type 0 where
@@ -73,7 +73,7 @@ module _ (programs : Programs) where
     pub calls : Returned (programs.ghosts p).Honest (programs.ghosts p).Works (programs.ghosts p).state (programs.ghosts p).past
         (programs.ghosts p).fault_count (programs.ghosts p).write_count (programs.ghosts p).sync_count store last
 
-  -- and then it made one more, at these moments, whether that returned or its device failed
+  -- and then it made one more call, at these moments, which returned or whose device failed
   pub record Calls (p : programs.Program) (last new : Store (programs.Disk p)) (moments : List DiskState) : Type 0 where
     pub call : Call (programs.ghosts p).Honest (programs.ghosts p).Works (programs.ghosts p).state (programs.ghosts p).past
         (programs.ghosts p).fault_count (programs.ghosts p).write_count (programs.ghosts p).sync_count last new
@@ -84,8 +84,8 @@ module _ (programs : Programs) where
   abbrev pub content_of : (p : programs.Program) → programs.Disk p → List ℕ
   content_of p disk = ((programs.ghosts p).state disk).content
 
-  -- A file with such a history: a new one of these texts; or one that a stop may leave of a program which opened such a file,
-  -- after calls that all returned, or at a moment of the call after these.
+  -- A file with a history: a new one of these texts, or one that a crash may leave of a program which opened a file with a
+  -- history, after calls that all returned, or at a moment of the call after these.
   pub data History (texts : KitTexts) : List ℕ → Type 0 where
     New : (file : List ℕ) (kit : Kit) → SpellsKit texts kit → IsNewStore texts file → History texts file
     Behind : (p : programs.Program) (disk : programs.Disk p) (last : Store (programs.Disk p)) (image : List ℕ)
@@ -95,7 +95,7 @@ module _ (programs : Programs) where
         → History texts (content_of p disk) → Ran p disk last → Calls p last new moments
         → IsImageOfOne moments image → History texts image
 
-  -- whatever a stop leaves after a formatting is such a file
+  -- whatever a crash leaves after a formatting is such a file
   abbrev pub HistoriesBegin : Type 0
   HistoriesBegin = (texts : KitTexts) (old new : DiskState) → FormatAllows texts old new (Ok tt) → EachImage new (History texts)
 
@@ -111,7 +111,7 @@ module _ (programs : Programs) where
       (texts : KitTexts) (p : programs.Program) (disk : programs.Disk p) (last new : Store (programs.Disk p)) (moments : List DiskState)
       → History texts (content_of p disk) → Ran p disk last → Calls p last new moments → History texts (content_of p (disk_of new))
 
-  -- and so is what a stop leaves within an opening of such a file, whether that answers with a store or not
+  -- and so is what a crash leaves within an opening of such a file, whether that answers with a store or not
   abbrev pub HistoriesStay : Type 0
   HistoriesStay =
       (texts : KitTexts) (p : programs.Program) (disk : programs.Disk p) (result : Result (Store (programs.Disk p)) (opening.Refused (programs.Disk p)))

@@ -4,17 +4,17 @@ use Rattle.std.proofs.Common.{inl, inr}
 use Rattle.rr_disk.specs.declared.disk.Disk.{Ghosts}
 use Rattle.rr_disk.specs.Disk.{IsImage}
 
--- which programs there may be; and the type of each one's disk, with what the clauses of a disk speak of
+-- which programs there may be, and of each the type of its disk and the ghost members that clauses on that disk name
 pub record Programs : Type 1 where
   pub Program : Type 0
   pub Disk : Program → Type 0
   pub ghosts : (p : Program) → Ghosts (Disk p)
 
--- what a stop may leave of an honest disk is what a read gives, among others
+-- a crash may leave an honest disk just as a read gives it
 abbrev pub ContentMayStay : {D : Type 0} → Ghosts D → Type 0
 ContentMayStay {D} ghosts = (disk : D) → ghosts.Honest disk → IsImage (ghosts.state disk) (ghosts.state disk).content
 
--- so it is of the disk of each program
+-- so it is for the disk of each program
 abbrev pub ContentsMayStay : Programs → Type 0
 ContentsMayStay programs = (p : programs.Program) → ContentMayStay (programs.ghosts p)
 
@@ -22,7 +22,7 @@ ContentsMayStay programs = (p : programs.Program) → ContentMayStay (programs.g
 abbrev pub one_type : {D : Type 0} → Ghosts D → Programs
 one_type {D} ghosts = record { Program = Unit {0}; Disk = λ p. D; ghosts = λ p. ghosts }
 
--- programs as before, and others with a disk of one type more
+-- these programs, and others whose disks have one more type
 module _ (before : Programs) {D : Type 0} (ghosts : Ghosts D) where
   abbrev pub Either : Type 0
   Either = before.Program ⊎ Unit {0}

@@ -35,7 +35,7 @@ HaveRightDividends kit tables = AllByRecursion (λ t. HasRightDividends kit t.1.
 abbrev pub IsSoundWorld : Kit → World → Type 0
 IsSoundWorld kit tables = AreInOrder kit tables × HaveBestRuns kit tables × HaveRightDividends kit tables
 
--- so it is whatever lawful requests led to the world; of dividends this is said with a right kit
+-- so it is whatever lawful requests led to the world; for dividends the kit has to be a right one
 abbrev pub WorldsAreSound : Type 0
 WorldsAreSound =
     (kit : Kit) (requests : List TableRequest) (tables : World) → NamesCorporations kit → Follows kit [] requests tables

@@ -1,19 +1,19 @@
-//! The programs that open a file one after another, as laws on a file's history speak of them. It has no code.
+//! The programs that open a file one after another, for laws on a file's history. It has no code.
 ghost use Rattle.rr_world_laws.specs.Programs.{ContentsMayStay, Programs as AnyPrograms, either_may_stay, one_type, one_type_more};
 
 use rr_disk::Disk;
 use std::marker::PhantomData;
 
-/// The programs that may open a file, one after another, each with a disk of its own. The disks of any two may have
-/// different types. It has no code.
+/// The programs that may open a file one after another, each with a disk of its own. Any two disks may have different
+/// types. It has no code.
 pub trait Programs {
-    /// Which programs they are, and what the clauses of a disk speak of, of the disk of each.
+    /// Which programs they are, and the ghost members of each one's disk.
     ghost programs: { AnyPrograms };
 }
 
-/// Programs of whose disks the law of a disk holds. It has no code.
+/// Programs whose disks keep the law of `Disk`. It has no code.
 pub trait ProgramsOnDisks: Programs {
-    /// What a stop may leave of an honest disk is what a read gives, among others.
+    /// A crash may leave an honest disk just as a read gives it.
     ghost may_stay: { ContentsMayStay Self.programs };
 }
 
