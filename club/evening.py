@@ -4,19 +4,21 @@ from __future__ import annotations
 import os
 import re
 import select
+import shutil
 import subprocess
 import sys
 import tempfile
-from collections.abc import Iterator, Sequence
+from collections.abc import Sequence
 from contextlib import suppress
 from pathlib import Path
 
-from club.client import Ended, Program, Refused
+from club.client import Ended, Program, Refused, Reply
 from club.kept import Kept, read_kept, turns_of
-from club.kit import CORPORATIONS, Hex
 from club.layout import Layout
-from club.links import Hexside, Node, hexes_of, links_of, routes_through
-from club.refusals import COMMANDS, QUERIES, choices, explain
+from club.links import described, hexes_of, links_of, routes_through
+from club.looking import MEMORY, view_of
+from club.pages import due_text, sheet_text
+from club.refusals import COMMANDS, QUERIES, explain
 
 VERBS = {it[0] for it in COMMANDS}
 QUERY_LENGTHS = {it[0]: len(it) for it in QUERIES}
@@ -51,6 +53,7 @@ class Evening:
         self.table = "".join(program.ask("tables")[-1:])
         self.under_way: list[str] = []  # the line that is being taken, until it is known whether it was
         self.rest: list[str] = []
+        self.shown: dict[str, tuple[Reply, int]] = {}  # how many turns had ended at a table, and its stamp, as its page was written
         self.own = {"who": self.who, "board": self.board, "links": self.board, "undo": self.undo, "rest": self.send_rest,
                     "table": self.choose, "help": lambda _: print(HELP)}
         self.settle()
@@ -91,6 +94,8 @@ class Evening:
                 if (text := input(self.prompt())).strip() == "quit":
                     return True
                 self.take_all(text.split("\n"))
+                if not is_waiting():
+                    self.write_pages()
             except EOFError:
                 return True
             except (KeyboardInterrupt, Ended):
@@ -164,8 +169,9 @@ class Evening:
     def play(self, command: str) -> None:
         """Sends a command, and shows what comes of it. Raises Mistake if it is refused."""
         _, table, verb, *_ = command.split(" ")
-        turns = self.program.line(f"turns {table}")
-        self.note(f"{self.program.stamp(table)}\t{command}\t")
+        turns, stamp = self.program.line(f"turns {table}"), self.program.stamp(table)
+        self.shown.setdefault(table, (turns, stamp))
+        self.note(f"{stamp}\t{command}\t")
         reply = self.program.line(command)
         self.note(f"{reply}\n")
         self.under_way = []
@@ -175,8 +181,15 @@ class Evening:
             raise Mistake(explain(command, reply, self.program.ask))
         if verb in ("run", "best"):
             self.show_run()
-        if self.program.line(f"turns {table}") != turns:
-            write_page(self.file, table)
+
+    def write_pages(self) -> None:
+        """Writes the pages of the tables at which turns ended, with the changes since their last pages or the evening's start."""
+        for table, (turns, stamp) in self.shown.items():
+            if (now := self.program.line(f"turns {table}")) != turns:
+                self.shown[table] = now, self.program.stamp(table)
+                with tempfile.TemporaryDirectory(dir=MEMORY) as folder:
+                    words = [table, "--file", shutil.copy(self.file, folder), "-o", self.file.parent, "--since", str(stamp)]
+                    subprocess.run([sys.executable, PAGE, *words, "--program", self.program.words[0]], check=False)
 
     def show_run(self) -> None:
         """The routes of the run that was taken last, by the names of their hexes."""
@@ -204,17 +217,8 @@ class Evening:
 
     def who(self, _: Sequence[str]) -> None:
         """What everybody has, who is due, and the lines that the step takes."""
-        for player in self.kept().tables[self.chosen()][0].split(" ")[1:]:
-            shares = [f"{it} {held[0]}%" for it in CORPORATIONS if (held := self.ask("holds", player, it)) != ["0"]]
-            self.show_owner(player, "worth", [*self.ask("privates", player), *shares])
-        for name in self.ask("order"):
-            self.show_owner(name, "price", [*(f"train {it}" for it in self.ask("trains", name)), *self.ask("privates", name)])
-        print(f"{self.table}: {self.ask('turns')[0]} turns, phase {self.ask('phase')[0]}, bank {self.ask('cash', 'bank')[0]}")
-        print(f"{' '.join(self.ask('due'))}: {', '.join(choices(self.ask('due')))}")
-
-    def show_owner(self, name: str, query: str, owned: Sequence[str]) -> None:
-        """A line about a player or a corporation, with the answer to one more query."""
-        print(f"{name:<13} cash {self.ask('cash', name)[0]:>5}  {query} {self.ask(query, name)[0]:>5}  {', '.join(owned)}".rstrip())
+        view = view_of(self.program, self.kept(), self.chosen())
+        print(*(line for it in view.sheets for line in sheet_text(it, it)), *due_text(view), sep="\n")
 
     def board(self, names: Sequence[str]) -> None:
         """What lies on hexes, and the numbers of the links there with what each one joins."""
@@ -222,13 +226,7 @@ class Evening:
         if strangers := set(names) - set(layout.kit.board.hexes):
             raise Mistake(f"The board has no hex {', '.join(sorted(strangers))}.")
         links = links_of(layout)
-        for on in layout.kit.board.hexes.values():
-            lay = layout.last_lay(on.name)
-            joined = [f"{it.number}: {'-'.join(end_names(layout, on, it.ends))}" for it in links if it.hex == on.name]
-            tokens = [f"{it.corporation} on city {it.centre}" for it in layout.tokens if it.hex == on.name]
-            if on.name in names or (not names and (joined or tokens)):
-                tile = f"tile {lay.tile} turned {lay.turn}" if lay else layout.colour(on).value
-                print(f"{on.name:<5} {tile:<17} {', '.join([*joined, *tokens])}".rstrip())
+        print(*described(layout, names), sep="\n")
 
     def undo(self, _: Sequence[str]) -> None:
         """Takes back what was played since the last turn ended, or else that turn, if the person says so."""
@@ -257,30 +255,15 @@ class Evening:
         self.table = words[0]
 
 
-def end_names(layout: Layout, on: Hex, ends: Sequence[Node]) -> Iterator[str]:
-    """The ends of a link on a hex: the name of the hex across, or the kind of centre with its number."""
-    for end in ends:
-        if isinstance(end, Hexside):
-            across = layout.kit.board.at(end.place.across(end.edge) if end.place == on.place else end.place)
-            yield across.name if across else "edge"
-        else:
-            kind = layout.face(on).centres[end.centre - 1].kind.name.lower().replace("_", "-")
-            yield f"{kind} {end.centre}"
+def is_waiting() -> bool:
+    """Whether the terminal has more of a paste."""
+    return sys.stdin.isatty() and bool(select.select([sys.stdin], [], [], PASTE_SECONDS)[0])
 
 
 def pasted() -> list[str]:
     """The lines of a paste that the terminal hasn't handed over yet."""
     lines: list[str] = []
     with suppress(EOFError):
-        while sys.stdin.isatty() and select.select([sys.stdin], [], [], PASTE_SECONDS)[0]:
+        while is_waiting():
             lines += input().split("\n")
     return lines
-
-
-def write_page(file: Path, table: str) -> None:
-    """Writes the page of a table beside the file, from a copy of it; nothing if there is no club/page."""
-    if PAGE.exists():
-        with tempfile.NamedTemporaryFile(suffix=".store") as copy:
-            copy.write(file.read_bytes())
-            copy.flush()
-            subprocess.run([sys.executable, str(PAGE), table, "--file", copy.name, "-o", str(file.parent)], check=False)

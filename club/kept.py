@@ -21,10 +21,11 @@ ENDS_TURN = re.compile(r"(?:open|bid|pass|done|end|bankrupt|par \S+ B&O) .*|buy 
 
 @dataclass(frozen=True)
 class Kept:
-    """A file's kit, and for each table the commands that it keeps, `open` first and neither `back` nor `forget`."""
+    """A file's kit, for each table the commands that it keeps, `open` first and neither `back` nor `forget`, and the kit's texts."""
 
     kit: Kit
     tables: dict[str, list[str]]
+    texts: Sequence[bytes] = ()
 
     def layout(self, table: str, due: str) -> Layout:
         """The board as it lies. A corporation has its token at home from its first turn on, so also if it is `due`."""
@@ -51,7 +52,7 @@ def read_kept(data: bytes) -> Kept:
             commands[:] = sum(turns_of(commands)[:int(words[0]) + 1], [])
         elif verb != "forget":
             commands.append(" ".join([verb, *words]))
-    return Kept(read_kit(dict(zip(TEXTS, store.texts))), tables)
+    return Kept(read_kit(dict(zip(TEXTS, store.texts))), tables, store.texts)
 
 
 def turns_of(commands: Sequence[str]) -> list[list[str]]:

@@ -21,6 +21,8 @@ PRIVATES = ("SV", "C&SL", "D&H", "M&H", "C&A", "B&O")
 CORPORATIONS = ("PRR", "NYC", "CPR", "B&O", "C&O", "ERIE", "NYNH", "B&M")
 # From the first train of these kinds on an off-board area has its later value.
 LATE_TRAINS = ("5", "6", "D")
+# How many trains a corporation may have, by the phase.
+TRAIN_LIMITS = {"2": 4, "3": 4, "4": 3, "5": 2, "6": 2, "D": 2}
 # Each text, with the name of its file; a file may also have the name of its text alone.
 TEXTS = {"chart": "chart.txt", "roster": "roster.toml", "tiles": "tiles.txt", "board": "board.txt"}
 

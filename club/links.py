@@ -6,11 +6,11 @@ board's text, within a hex in the order of its tile's text. So each tile that is
 from __future__ import annotations
 
 from collections import defaultdict
-from collections.abc import Sequence
+from collections.abc import Collection, Iterator, Sequence
 from dataclasses import dataclass
 from itertools import groupby, islice
 
-from club.kit import FACING, Place
+from club.kit import FACING, Hex, Place
 from club.layout import Layout
 
 # How many ways are looked at for the routes through some hexes.
@@ -59,6 +59,29 @@ def links_of(layout: Layout) -> list[Link]:
     found = [(on, edges, centre) for on in layout.kit.board.hexes.values() for edges, centre in layout.face(on).links]
     return [Link(number, on.name, (hexside(on.place, edges[0]), Stop(on.name, centre) if centre else hexside(on.place, edges[1])))
             for number, (on, edges, centre) in enumerate(found, 1)]
+
+
+def described(layout: Layout, names: Collection[str]) -> Iterator[str]:
+    """What lies on hexes, or on all that have links or tokens: the tile, the numbers of the links with what each joins, tokens."""
+    links = links_of(layout)
+    for on in layout.kit.board.hexes.values():
+        lay = layout.last_lay(on.name)
+        joined = [f"{it.number}: {'-'.join(end_names(layout, on, it.ends))}" for it in links if it.hex == on.name]
+        tokens = [f"{it.corporation} on city {it.centre}" for it in layout.tokens if it.hex == on.name]
+        if on.name in names or (not names and (joined or tokens)):
+            tile = f"tile {lay.tile} turned {lay.turn}" if lay else layout.colour(on).value
+            yield f"{on.name:<5} {tile:<17} {', '.join([*joined, *tokens])}".rstrip()
+
+
+def end_names(layout: Layout, on: Hex, ends: Sequence[Node]) -> Iterator[str]:
+    """The ends of a link on a hex: the name of the hex across, or the kind of centre with its number."""
+    for end in ends:
+        if isinstance(end, Hexside):
+            across = layout.kit.board.at(end.place.across(end.edge) if end.place == on.place else end.place)
+            yield across.name if across else "edge"
+        else:
+            kind = layout.face(on).centres[end.centre - 1].kind.name.lower().replace("_", "-")
+            yield f"{kind} {end.centre}"
 
 
 def hexes_of(links: Sequence[Link], route: Sequence[int]) -> list[str]:

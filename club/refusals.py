@@ -3,12 +3,14 @@ from __future__ import annotations
 
 import difflib
 import re
+import sys
 from collections.abc import Callable, Iterator
 from dataclasses import dataclass
 from pathlib import Path
 
-from club.client import Refused, Reply
-from club.kit import CORPORATIONS, PRIVATES
+from club.client import Ended, Refused, Reply
+from club.kit import CORPORATIONS, PRIVATES, TRAIN_LIMITS, KitError
+from club.locking import Held
 
 # The words of each command after stamp and table, and those of each query. A last word with `..` may be repeated.
 COMMANDS = [it.split(" ") for it in (
@@ -61,6 +63,17 @@ class Case:
             return self.ask(" ".join((query, self.table, *words)))
         except Refused:
             return []
+
+
+def status_of(name: str, work: Callable[[], int]) -> int:
+    """The status of a command's work: 2 if it can't be done, which is said on the standard error."""
+    try:
+        return work()
+    except Refused as why:
+        print(f"{name}: {why}: {explain('tables', why.reply, lambda _: [])}", file=sys.stderr)
+    except (Ended, Held, KitError, OSError) as why:
+        print(f"{name}: {why}", file=sys.stderr)
+    return 2
 
 
 def explain(line: str, reply: Reply, ask: Ask) -> str:
@@ -160,7 +173,7 @@ def wrong_step(case: Case) -> str:
 
 
 def must_discard(case: Case) -> str:
-    most = {"2": 4, "3": 4, "4": 3}.get(case.answer("phase")[0], 2)
+    most = TRAIN_LIMITS[case.answer("phase")[0]]
     over = [it for it in case.answer("order") if len(case.answer("trains", it)) > most]
     return f"{' and '.join(over)} may have {most} trains. First one is given up: `drop {over[0]} KIND`."
 
