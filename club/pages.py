@@ -35,7 +35,7 @@ def html_of(view: View, before: View | None) -> str:
 
 def marked(text: str, is_changed: bool) -> str:
     """A text, marked if it's another one than before."""
-    return f"<mark>{escape(text)}</mark>" if is_changed else escape(text)
+    return f"<mark>{escape(text)}</mark>" if is_changed and text else escape(text)
 
 
 def sheet_html(sheet: Sheet, before: Sheet) -> str:

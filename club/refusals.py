@@ -105,7 +105,8 @@ def choices(due: list[str]) -> list[str]:
     who, step = due[0], due[-1]
     other_buy = ["buy", "PLAYER"] if step == "stock" else ["buy", "PLAYER", "CORPORATION", "offer|pool"]
     kind = "CORPORATION" if who in CORPORATIONS else "PLAYER"
-    return [" ".join(it).replace(kind, who, 1) for it in COMMANDS if it[0] in STEPS[step].split(" ") and it != other_buy]
+    fit = [it for it in COMMANDS if it[0] in STEPS[step].split(" ") and it != other_buy]
+    return [" ".join([verb, who if actor == kind else actor, *rest]) for verb, actor, *rest in fit]
 
 
 def misfit(line: str) -> str:

@@ -184,6 +184,8 @@ class Observer:
 
 def played(commands: Sequence[str]) -> str:
     """The commands of a turn, without proof trees, by whom they name first."""
+    if commands and commands[0].startswith("open "):
+        return commands[0]
     words = [it.partition(" best ")[0].split(" ") for it in commands]
     groups = [(actor, [" ".join([verb, *rest]) for verb, _, *rest in its]) for actor, its in groupby(words, lambda it: it[1])]
     return "; ".join(f"{actor}: {', '.join(its)}" for actor, its in groups)

@@ -188,7 +188,7 @@ class MisfitTest(unittest.TestCase):
         self.assertEqual(choices(["ann", "auction"]), ["buy ann", "bid ann PRIVATE DOLLARS", "pass ann"])
         self.assertEqual(choices(["ann", "stock"])[0], "buy ann CORPORATION offer|pool")
         self.assertEqual(choices(["PRR", "pay"]), ["pay PRR", "hold PRR", "private PRR PRIVATE DOLLARS"])
-        self.assertIn("raise PLAYER PRR SHARES", choices(["PRR", "train"]))
+        self.assertIn("raise PLAYER CORPORATION SHARES", choices(["PRR", "train"]))
         self.assertEqual(choices(["over"]), [])
         self.assertLessEqual({verb for verbs in STEPS.values() for verb in verbs.split()}, {it[0] for it in COMMANDS})
 
