@@ -1,6 +1,4 @@
 """What the entries of a table's turns say, which the query `book` answers with."""
-from __future__ import annotations
-
 from collections import Counter, defaultdict
 from collections.abc import Iterator, Sequence
 from dataclasses import dataclass
@@ -8,7 +6,7 @@ from functools import cached_property
 
 from club.client import Program
 from club.drawing import MarketToken
-from club.kit import CORPORATIONS, Cell, Chart, Kit, Token
+from club.kit import TRAIN_LIMITS, Chart, Kit, Token
 from club.layout import Lay, Layout
 
 # The words of an entry, the first of which says what kind it is.
@@ -44,22 +42,20 @@ class Books:
         return None if holder == "offer" else holder
 
     @cached_property
+    def marks(self) -> list[MarketToken]:
+        """Where tokens were put on the chart, oldest first."""
+        return [MarketToken(it, int(row), int(column)) for it, row, column in self.all_of("mark")]
+
+    @property
     def pars(self) -> dict[str, MarketToken]:
-        """Where the tokens of corporations were put on the chart first."""
-        return {it: MarketToken(it, int(row), int(column)) for it, row, column in reversed([*self.all_of("mark")])}
+        """Where the token of each corporation was put first."""
+        return {it.corporation: it for it in reversed(self.marks)}
 
-    @cached_property
+    @property
     def tokens(self) -> dict[str, MarketToken]:
-        """The tokens on the chart by their corporations, in the order in which they came to where they are."""
-        found: dict[str, MarketToken] = {}
-        for corporation, row, column in self.all_of("mark"):
-            found.pop(corporation, None)
-            found[corporation] = MarketToken(corporation, int(row), int(column))
-        return found
-
-    def has_floated(self, corporation: str) -> bool:
-        """Whether a corporation has floated: it has a par, and 60% were sold, of which nothing comes back to the offering."""
-        return corporation in self.pars and self.percent(corporation, "offer") <= 40
+        """Where the token of each corporation is, in the order in which they came there."""
+        last = {it.corporation: number for number, it in enumerate(self.marks)}
+        return {self.marks[it].corporation: self.marks[it] for it in sorted(last.values())}
 
     def layout(self, kit: Kit) -> Layout:
         """The board as it lies."""
@@ -78,40 +74,36 @@ def entries_of(words: Sequence[str]) -> list[Entry]:
     return [it.split() for it in " ".join(words).split(";") if it]
 
 
-def cell_of(chart: Chart, token: MarketToken) -> Cell:
-    """The cell of the chart on which a token is."""
-    cell = chart[token.row][token.column]
-    assert cell
-    return cell
-
-
 def effects(entries: Sequence[Entry], chart: Chart) -> str:
-    """What entries changed, in a few words for each player and corporation, the pool, and what left the game."""
+    """What entries changed, in a few words for each player and corporation, the pool, the board, and what is gone from the game."""
     gains: dict[str, Counter[str]] = defaultdict(Counter)
-    money: Counter[str] = Counter()
-    for verb, *words in entries:
-        if verb == "pay":
-            money.update({words[1]: int(words[2])})
-            money.subtract({words[0]: int(words[2])})
-            gains[words[0]], gains[words[1]]  # keeps the order
-        else:
-            owner, gain = gain_of(verb, words, chart)
-            gains[owner][gain] += 1
-    parts = {owner: [f"{count} × {it}" if count > 1 else it for it, count in gained.items()] for owner, gained in gains.items()}
-    for owner in (it for it in parts if money[it]):
-        parts[owner].append(f"{'+' if money[owner] > 0 else '−'}${abs(money[owner])}")
-    return "; ".join(f"{owner}: {', '.join(it)}" for owner, it in parts.items() if it and owner not in ("bank", "offer"))
+    for entry in entries:
+        match entry:
+            case ["pay", giver, taker, dollars]:
+                gains[giver]["$"] -= int(dollars)
+                gains[taker]["$"] += int(dollars)
+            case ["move" | "train", name, place]:
+                gains[place][named(name)] += 1
+            case ["mark", name, row, column]:
+                gains[name][f"price ${MarketToken(name, int(row), int(column)).cell(chart).price}"] += 1
+            case ["lay", name, tile, _]:
+                gains["board"][f"tile {tile} on {name}"] += 1
+            case ["station", name, place, _]:
+                gains[name][f"token on {place}"] += 1
+            case ["best", name, *_]:
+                gains[name]["a best run"] += 1
+    parts = {owner: [counted(*it) for it in its.items() if it[1]] for owner, its in gains.items() if owner not in ("bank", "offer")}
+    return "; ".join(f"{owner}: {', '.join(its)}" for owner, its in parts.items() if its)
 
 
-def gain_of(verb: str, words: Sequence[str], chart: Chart) -> tuple[str, str]:
-    """Whom an entry that pays nothing is about, and what came to it or where it went."""
-    name, _, kind = words[0].rpartition("-")
-    if verb == "move" and name in CORPORATIONS:
-        return words[1], f"{name} {20 if kind == 'P' else 10}%"
-    if verb in ("move", "train"):
-        return {"gone": "out of the game"}.get(words[1], words[1]), f"train {name}" if verb == "train" else f"private {words[0]}"
-    if verb == "lay":
-        return "board", f"tile {words[1]} on {words[0]}"
-    if verb == "mark":
-        return words[0], f"price ${cell_of(chart, MarketToken(words[0], int(words[1]), int(words[2]))).price}"
-    return words[0], f"token on {words[1]}" if verb == "station" else "a best run"
+def named(name: str) -> str:
+    """A certificate or a train, as people call it."""
+    owner, _, kind = name.rpartition("-")
+    return f"train {owner}" if owner in TRAIN_LIMITS else f"{owner} {20 if kind == 'P' else 10}%" if owner else f"private {name}"
+
+
+def counted(gain: str, count: int) -> str:
+    """Something that came once or more often, or money that was gained or paid."""
+    if gain == "$":
+        return f"{'+' if count > 0 else '−'}${abs(count)}"
+    return f"{count} × {gain}" if count > 1 else gain

@@ -1,6 +1,4 @@
 """The prompt of an evening: it fills in stamps and tables, logs lines and replies, and explains what is refused."""
-from __future__ import annotations
-
 import os
 import re
 import select
@@ -18,7 +16,7 @@ from club.layout import Layout
 from club.links import described, hexes_of, links_of, routes_through
 from club.looking import MEMORY, view_of
 from club.pages import due_text, sheet_text
-from club.refusals import COMMANDS, QUERIES, explain
+from club.refusals import COMMANDS, QUERIES, explain, rows_under
 
 VERBS = {it[0] for it in COMMANDS}
 QUERY_LENGTHS = {it[0]: len(it) for it in QUERIES}
@@ -26,15 +24,7 @@ PAGE = Path(__file__).with_name("page")
 QUOTED = re.compile(r"^[> \t]+| {2,}(?:ok|no|=) .*")  # what a mail puts before a line, and this prompt after it
 PASTE_SECONDS = 0.1  # for a terminal to hand over the next line of a paste
 SHOWN_LENGTH = 100  # of a line: the proof of a best run goes on for thousands
-HELP = """\
-Type what is played, as `buy ann`, or a query, as `cash ann`: stamp and table are filled in. Or paste an evening.
-  who              what everybody has, who is due, and what can be played
-  board, board B3  what lies on the hexes, or on some, with the numbers of the links (`links` is the same)
-  best, best PRR   plays a best run; `run PRR 2=B3-B5 3=-` plays one by the names of hexes, `-` for a train that stays
-  undo             takes the last turn back, after showing it
-  rest, rest off   sends the lines of a paste that a refusal stopped, or forgets them
-  table g2         goes on with table g2; `g2 open ann bob` opens it
-  quit             ends, as Ctrl-D does; Ctrl-C breaks a search off"""
+README = Path(__file__).with_name("README.md")
 
 
 class Mistake(Exception):
@@ -55,7 +45,7 @@ class Evening:
         self.rest: list[str] = []
         self.shown: dict[str, tuple[Reply, int]] = {}  # how many turns had ended at a table, and its stamp, as its page was written
         self.own = {"who": self.who, "board": self.board, "links": self.board, "undo": self.undo, "rest": self.send_rest,
-                    "table": self.choose, "help": lambda _: print(HELP)}
+                    "table": self.choose, "help": self.help}
         self.settle()
 
     def note(self, text: str) -> None:
@@ -241,6 +231,11 @@ class Evening:
         if not sys.stdin.isatty() or input("Take it back? [y/n] ").strip() not in ("y", "yes"):
             raise Mistake("Nothing was taken back.")
         self.take(["back", str(target)])
+
+    def help(self, _: Sequence[str]) -> None:
+        """What can be typed."""
+        for words, what in rows_under("## Play", README)[1:]:
+            print(f"  {words:<22} {what.replace('`', '')}")
 
     def send_rest(self, words: Sequence[str]) -> None:
         """Sends the lines of a paste that are left, or forgets them."""

@@ -1,6 +1,4 @@
 """What a kit that `moderate format` takes may still have wrong: texts that are right one by one, and don't fit together."""
-from __future__ import annotations
-
 from collections import defaultdict
 from collections.abc import Collection, Iterator
 

@@ -1,6 +1,4 @@
 """What a file keeps of its tables: the kit, and the commands of each table, from which follows what lies on its board."""
-from __future__ import annotations
-
 import re
 import sys
 from collections.abc import Sequence

@@ -1,6 +1,4 @@
 """What lies on a board: the tiles and the tokens, over what is printed there."""
-from __future__ import annotations
-
 from dataclasses import dataclass
 
 from club.kit import Colour, Face, Hex, Kit, Token
@@ -42,11 +40,8 @@ class Layout:
         lying = [lay.tile for lay in map(self.last_lay, self.kit.board.hexes) if lay]
         return {number: tile.count - lying.count(number) for number, tile in self.kit.tiles.items()}
 
-    def tokens_on(self, name: str, centre: int) -> list[str]:
-        """The corporations with a token on a centre of a hex, oldest first."""
-        return [it.corporation for it in self.tokens if (it.hex, it.centre) == (name, centre)]
-
-    def kept_on(self, name: str, centre: int) -> list[str]:
-        """The corporations without a token whose home is a centre of a hex: for each of them a slot is kept."""
-        placed, homes = {it.corporation for it in self.tokens}, self.kit.board.homes
-        return [it.corporation for it in homes if (it.hex, it.centre) == (name, centre) and it.corporation not in placed]
+    def slots(self, name: str, centre: int) -> list[str]:
+        """The corporations with a token on a centre of a hex, oldest first, and those for whose first token a slot is kept there."""
+        placed = {it.corporation for it in self.tokens}
+        waiting = [it for it in self.kit.board.homes if it.corporation not in placed]
+        return [it.corporation for it in (*self.tokens, *waiting) if (it.hex, it.centre) == (name, centre)]

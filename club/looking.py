@@ -1,6 +1,4 @@
 """Looks at the tables of a file, and shows them: the work of `club/page` and `club/mail`."""
-from __future__ import annotations
-
 import argparse
 import os
 import shutil
@@ -12,10 +10,9 @@ from dataclasses import replace
 from pathlib import Path
 
 from club.books import Books, read_books
-from club.client import Program, Refused, find_program
+from club.client import Program, Refused, find_program, take_lock
 from club.kept import Kept, read_kept, turns_of
 from club.kit import TEXTS
-from club.locking import take_lock
 from club.refusals import status_of
 from club.views import Observer, View
 
@@ -27,7 +24,7 @@ def main(description: str, show: Callable[[View, View | None], str], ending: str
     """Prints what is to be shown of each table, or writes it into a folder. Returns the status."""
     parser = argparse.ArgumentParser(description=description, formatter_class=argparse.RawDescriptionHelpFormatter)
     parser.add_argument("tables", metavar="TABLE", nargs="*", help="a table; all if none is named")
-    parser.add_argument("--file", type=Path, required=True, help="a store that `moderate format` made")
+    parser.add_argument("--file", type=Path, required=True, help="a store, or a copy of one that club/play has locked; it's copied first")
     parser.add_argument("--since", metavar="STAMP", type=int, help="mark what changed since the table had this stamp")
     parser.add_argument("-o", "--output", metavar="OUT", type=Path, help=f"the folder for TABLE{ending}; else all is printed")
     parser.add_argument("--program", help="`moderate`; else $MODERATE, the one built here, or the one on the PATH")

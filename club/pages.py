@@ -1,6 +1,4 @@
 """A table's page in HTML, and the same as text for a mail. What changed since an earlier view is marked."""
-from __future__ import annotations
-
 from collections.abc import Iterator
 from dataclasses import replace
 from html import escape
@@ -14,6 +12,7 @@ def html_of(view: View, before: View | None) -> str:
     """The page."""
     old = before or view
     moved = {it.corporation for it in set(view.tokens) - set(old.tokens)}
+    laid = {it.hex for now, then in ((view.layout.lays, old.layout.lays), (view.layout.tokens, old.layout.tokens)) for it in now[len(then):]}
     choices = "".join(f"<li><code>{escape(it)}</code></li>" for it in view.choices)
     tiles = [(tile_svg(view.layout.kit.tiles[number]), marked(f"{number}: {left}", left != old.tiles_left[number]))
              for number, left in view.tiles_left.items()]
@@ -24,7 +23,7 @@ def html_of(view: View, before: View | None) -> str:
 <ul>{choices}</ul>
 <h2>Board</h2>
 {LINKS_SWITCH}
-<div class="scroll">{board_svg(view.layout, view.phase, view.changed_hexes(old))}</div>
+<div class="scroll">{board_svg(view.layout, view.phase, laid)}</div>
 <h2>Market</h2>
 <div class="scroll">{market_svg(view.layout.kit.chart, view.tokens, moved)}</div>
 {"".join(map(sheet_html, view.sheets, old.sheets))}

@@ -6,7 +6,7 @@ from dataclasses import dataclass, replace
 from functools import cached_property
 from itertools import groupby
 
-from club.books import Books, cell_of, effects
+from club.books import Books, effects
 from club.client import Program
 from club.drawing import MarketToken
 from club.kit import CORPORATIONS, PRIVATES, TRAIN_LIMITS, Kit, Mark
@@ -22,10 +22,10 @@ class Sheet:
     kind: str
     rows: dict[str, dict[str, str]]
 
-    @property
+    @cached_property
     def heads(self) -> list[str]:
         """The heads of the columns in which something stands."""
-        return list(dict.fromkeys(head for row in self.rows.values() for head in row if any(it[head] for it in self.rows.values())))
+        return [head for head in next(iter(self.rows.values())) if any(row[head] for row in self.rows.values())]
 
     def compared(self, before: Sheet) -> list[list[tuple[str, bool]]]:
         """The cells of each row, and whether each is another one than in an earlier sheet."""
@@ -57,11 +57,6 @@ class View:
     def tiles_left(self) -> dict[int, str]:
         """How many of each tile are left."""
         return {number: f"{left} of {self.layout.kit.tiles[number].count}" for number, left in self.layout.tiles_left().items()}
-
-    def changed_hexes(self, before: View) -> set[str]:
-        """The hexes on which tiles or tokens were laid since an earlier view."""
-        lays, tokens = set(self.layout.lays[len(before.layout.lays):]), set(self.layout.tokens) - set(before.layout.tokens)
-        return {it.hex for it in lays | tokens}
 
 
 @dataclass(frozen=True)
@@ -116,17 +111,13 @@ class Observer:
         """What a player has."""
         shares = [f"{it} {held[0]}%" for it in CORPORATIONS if (held := self.ask("holds", name, it)) != ["0"]]
         privates = self.ask("privates", name)
-        count = len(privates) + sum(self.counted(it, name) for it in CORPORATIONS)
+        # Shares in yellow, orange and brown don't count against the limit.
+        coloured = [name for name, it in self.books.tokens.items() if it.cell(self.kit.chart).mark not in (Mark.WHITE, Mark.PAR)]
+        count = len(privates) + sum(len(self.books.those_at(it, name)) for it in CORPORATIONS if it not in coloured)
         return {"Cash": self.dollars("cash", name), "Worth": self.dollars("worth", name), "Certificates": f"{count} of {self.ask('limit')[0]}",
                 "Shares": ", ".join(shares), "Privates": ", ".join(privates),
                 "President of": ", ".join(it for it in CORPORATIONS if self.books.president(it) == name),
                 "Priority": "yes" if name == self.priority else ""}
-
-    def counted(self, corporation: str, player: str) -> int:
-        """How many shares of a corporation count against a player's limit: none if its token is in yellow, orange or brown."""
-        token = self.books.tokens.get(corporation)
-        is_white = not token or cell_of(self.kit.chart, token).mark in (Mark.WHITE, Mark.PAR)
-        return len(self.books.those_at(corporation, player)) if is_white else 0
 
     @cached_property
     def priority(self) -> str | None:
@@ -145,8 +136,8 @@ class Observer:
         left = tokens - sum(it == name for it, *_ in self.books.all_of("station"))
         return {"Order": str(order.index(name) + 1) if name in order else "", "President": self.books.president(name) or "",
                 "Treasury": self.dollars("cash", name), "Price": self.dollars("price", name), "Cell": ",".join(self.ask("price", name)[1:]),
-                "Par": f"${cell_of(self.kit.chart, par).price}" if par else "",
-                "Floated": "yes" if self.books.has_floated(name) else f"{100 - offered}% sold",
+                "Par": f"${par.cell(self.kit.chart).price}" if par else "",
+                "Floated": "yes" if par and offered <= 40 else f"{100 - offered}% sold",
                 "Trains": ": ".join(filter(None, (f"{len(trains)} of {TRAIN_LIMITS[self.phase]}", ", ".join(trains)))),
                 "Tokens left": f"{left} of {tokens}", "Privates": ", ".join(self.ask("privates", name)),
                 "Offering": f"{offered}%", "Pool": f"{self.books.percent(name, 'pool')}%"}

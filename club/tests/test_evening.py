@@ -17,11 +17,10 @@ sys.path.insert(0, str(Path(__file__).resolve().parent))
 from desk import ROOT, SECONDS, StoreTest, Terminal, recorded
 
 from club import evening
-from club.client import Ended, Program, Reply
+from club.client import Ended, Program, Reply, take_lock
 from club.evening import Evening, Mistake
 from club.kept import read_kept
 from club.links import hexes_of, links_of
-from club.locking import take_lock
 
 PLAY = str(ROOT / "club/play")
 LARGE = "operating_rounds_of_four"
@@ -230,7 +229,7 @@ class TerminalTest(EveningTest):
         self.assertIn("The tables are: g1.", self.say(terminal, "table g2"))
         self.assertIn("g2 1 cat auction> ", self.say(terminal, "g2 open cat dan"))
         self.assertIn("g1 3 ann auction> ", self.say(terminal, "table g1"))
-        self.assertIn("who              what everybody has", self.say(terminal, "help"))
+        self.assertIn("who                    what everybody has, who is due, and what can be played\n", self.say(terminal, "help"))
         self.assertIn("is in use", subprocess.run([PLAY, store], input="", text=True, capture_output=True, check=False).stderr)
         terminal.type("quit\r")
         self.assertEqual(terminal.end(), 0)

@@ -110,8 +110,8 @@ class Documents(unittest.TestCase):
         layout = Layout(self.kit, (Lay("F", 7, 3), Lay("B", 23, 2), Lay("F", 28, 3)), (Token("PRR", "A", 1), Token("NYC", "D", 1)))
         self.assertEqual([it.number for it in links_of(layout) if it.hex == "F"], [9, 10])
         self.assertEqual((layout.tiles_left()[7], layout.tiles_left()[28], layout.tiles_left()[23]), (4, 0, 2))
-        self.assertEqual((layout.tokens_on("A", 1), layout.kept_on("A", 1)), (["PRR"], []))
-        self.assertEqual(Layout(self.kit).kept_on("D", 1), ["NYC"])
+        self.assertEqual(layout.slots("A", 1), ["PRR"])
+        self.assertEqual(Layout(self.kit).slots("D", 1), ["NYC"])
 
 
 class RecordedRuns(StoreTest):

@@ -15,9 +15,8 @@ from pathlib import Path
 sys.path.insert(0, str(Path(__file__).resolve().parent))
 from desk import ROOT, SECONDS, StoreTest, recorded
 
-from club.client import Program
+from club.client import Program, take_lock
 from club.kept import read_kept
-from club.locking import take_lock
 from club.looking import view_before, view_of
 from club.pages import html_of, text_of
 
@@ -248,7 +247,7 @@ class MarksTest(PagesTest):
         kept = read_kept(store.read_bytes())
         views = view_of(program, kept, "tiles"), view_before(program, kept, "tiles", 46)
         page, cells = html_of(*views), ["$785", "$1165", "2 of 28", "D&H, C&A", "2", "3", "$520", "$50", "5,3", "SV", "PRR"]
-        turn = ["28", "PRR: lay B 14 1, private SV 10, hold, end", "board: tile 14 on B; PRR: private SV, price $50, −$10; a: +$10"]
+        turn = ["28", "PRR: lay B 14 1, private SV 10, hold, end", "board: tile 14 on B; PRR: private SV, −$10, price $50; a: +$10"]
         marks = [unescape(it) for it in re.findall("<mark>(.*?)</mark>", page)]
         self.assertEqual(marks, ["Changes since the stamp 46 are marked.", *cells, "57: 1 of 1", "14: 0 of 1", *turn])
         board, market = [classes(it) for it in re.findall("(?s)<svg.*?</svg>", page)][:2]
