@@ -36,11 +36,6 @@ class Books:
         """How much of a corporation is at a place."""
         return sum(20 if it.endswith("-P") else 10 for it in self.those_at(corporation, place))
 
-    def president(self, corporation: str) -> str | None:
-        """The player who has the president's certificate, if it isn't in the offering any more."""
-        holder = self.places[f"{corporation}-P"]
-        return None if holder == "offer" else holder
-
     @cached_property
     def marks(self) -> list[MarketToken]:
         """Where tokens were put on the chart, oldest first."""

@@ -17,11 +17,9 @@ def findings(kit: Kit) -> list[str]:
 
 def of_homes_and_blocks(kit: Kit) -> Iterator[str]:
     """Corporations without a home, and privates without a block."""
-    homeless = set(CORPORATIONS) - {home.corporation for home in kit.board.homes}
-    if homeless:
+    if homeless := set(CORPORATIONS) - {home.corporation for home in kit.board.homes}:
         yield f"No `home` line for {listed(homeless)}: such a corporation gets no token, lays no tile and earns nothing."
-    free = set(PRIVATES) - {private for private, _ in kit.board.blocks}
-    if free:
+    if free := set(PRIVATES) - {private for private, _ in kit.board.blocks}:
         yield f"No `block` line for {listed(free)}: such a private blocks no hex."
 
 

@@ -9,7 +9,6 @@ import tomllib
 from collections.abc import Callable, Mapping
 from dataclasses import dataclass, field, replace
 from enum import Enum
-from functools import partial
 from itertools import count
 from pathlib import Path
 from typing import NamedTuple
@@ -186,6 +185,37 @@ class Board:
         """The hex at a place."""
         return next((it for it in self.hexes.values() if it.place == place), None)
 
+    def add_hex(self, line: str) -> None:
+        """Adds the hex that a line spells."""
+        form = r"hex ([A-Z0-9]{1,4}) ([^ ,]+),([^ ,]+) (white|yellow|green|brown|grey|red)(?: cost=(\S*))?(?: (.*))?"
+        name, q, r, colour, cost, face = matched(form, line, "hex <name> <q>,<r> <colour> [cost=N] <tile>")
+        place = Place(number_of(q, -50, 50), number_of(r, -50, 50))
+        added = Hex(name, place, Colour(colour), 0 if cost is None else number_of(cost, 0, 500), face_of(face))
+        if added.colour is not Colour.RED and any(it.kind is CentreKind.OFF_BOARD for it in added.face.centres):
+            raise ValueError("an off-board area stands in red hexes alone")
+        if name in self.hexes or self.at(place):
+            raise ValueError(f"another hex has the name {name} or the place {q},{r}")
+        self.hexes[name] = added
+
+    def add_home(self, line: str) -> None:
+        """Adds the home that a line spells."""
+        corporation, name, number = matched(r"home (\S+) (\S+) (\S+)", line, "home <corporation> <hex> <centre>")
+        if corporation not in CORPORATIONS or name not in self.hexes or corporation in {it.corporation for it in self.homes}:
+            raise ValueError(f"{corporation} is no corporation or has a home already, or {name} is no hex of the lines above")
+        centres = self.hexes[name].face.centres
+        home = Token(corporation, name, number_of(number, 1, max(1, len(centres))))
+        slots = centres[home.centre - 1].slots if centres else None
+        if sum((it.hex, it.centre) == (name, home.centre) for it in self.homes) >= (slots or 0):
+            raise ValueError(f"centre {number} of {name} is no city, or has no slot left for a home")
+        self.homes.append(home)
+
+    def add_block(self, line: str) -> None:
+        """Adds the block that a line spells."""
+        private, name = matched(r"block (\S+) (\S+)", line, "hex ..`, `home ..` or `block <private> <hex>")
+        if private not in PRIVATES or name not in self.hexes:
+            raise ValueError(f"{private} is no private, or {name} is no hex of the lines above")
+        self.blocks.append((private, name))
+
 
 @dataclass(frozen=True)
 class Cell:
@@ -266,60 +296,25 @@ def read_roster(data: bytes) -> Roster:
 def read_tiles(data: bytes) -> dict[int, Tile]:
     """The tiles of a text, by their number."""
     tiles: dict[int, Tile] = {}
-    read_lines("tiles", data, partial(add_tile, tiles))
+
+    def add(line: str) -> None:
+        colour, number, count, face = matched(r"(yellow|green|brown) (\S+) x(\S+)(?: (.*))?", line, "<colour> <number> x<count> <tile>")
+        tile = Tile(Colour(colour), number_of(number, 1, 999), number_of(count, 1, 50), face_of(face))
+        if tile.number in tiles or any(it.kind is CentreKind.OFF_BOARD for it in tile.face.centres):
+            raise ValueError(f"tile {number} stands twice, or has an off-board area")
+        tiles[tile.number] = tile
+    read_lines("tiles", data, add)
     return tiles
-
-
-def add_tile(tiles: dict[int, Tile], line: str) -> None:
-    """Adds the tile that a line spells."""
-    colour, number, count, face = matched(r"(yellow|green|brown) (\S+) x(\S+)(?: (.*))?", line, "<colour> <number> x<count> <tile>")
-    tile = Tile(Colour(colour), number_of(number, 1, 999), number_of(count, 1, 50), face_of(face))
-    if tile.number in tiles or any(it.kind is CentreKind.OFF_BOARD for it in tile.face.centres):
-        raise ValueError(f"tile {number} stands twice, or has an off-board area")
-    tiles[tile.number] = tile
 
 
 def read_board(data: bytes) -> Board:
     """The board of a text."""
-    board, adders = Board(), {"hex": add_hex, "home": add_home}
-    read_lines("board", data, lambda line: adders.get(line.split(" ")[0], add_block)(board, line))
+    board = Board()
+    adders = {"hex": board.add_hex, "home": board.add_home}
+    read_lines("board", data, lambda line: adders.get(line.split(" ")[0], board.add_block)(line))
     if not board.hexes:
         raise KitError("board", 0, "it has no hex")
     return board
-
-
-def add_hex(board: Board, line: str) -> None:
-    """Adds the hex that a line spells."""
-    form = r"hex ([A-Z0-9]{1,4}) ([^ ,]+),([^ ,]+) (white|yellow|green|brown|grey|red)(?: cost=(\S*))?(?: (.*))?"
-    name, q, r, colour, cost, face = matched(form, line, "hex <name> <q>,<r> <colour> [cost=N] <tile>")
-    place = Place(number_of(q, -50, 50), number_of(r, -50, 50))
-    added = Hex(name, place, Colour(colour), 0 if cost is None else number_of(cost, 0, 500), face_of(face))
-    if added.colour is not Colour.RED and any(it.kind is CentreKind.OFF_BOARD for it in added.face.centres):
-        raise ValueError("an off-board area stands in red hexes alone")
-    if name in board.hexes or board.at(place):
-        raise ValueError(f"another hex has the name {name} or the place {q},{r}")
-    board.hexes[name] = added
-
-
-def add_home(board: Board, line: str) -> None:
-    """Adds the home that a line spells."""
-    corporation, name, number = matched(r"home (\S+) (\S+) (\S+)", line, "home <corporation> <hex> <centre>")
-    if corporation not in CORPORATIONS or name not in board.hexes or corporation in {it.corporation for it in board.homes}:
-        raise ValueError(f"{corporation} is no corporation or has a home already, or {name} is no hex of the lines above")
-    centres = board.hexes[name].face.centres
-    home = Token(corporation, name, number_of(number, 1, max(1, len(centres))))
-    slots = centres[home.centre - 1].slots if centres else None
-    if sum((it.hex, it.centre) == (name, home.centre) for it in board.homes) >= (slots or 0):
-        raise ValueError(f"centre {number} of {name} is no city, or has no slot left for a home")
-    board.homes.append(home)
-
-
-def add_block(board: Board, line: str) -> None:
-    """Adds the block that a line spells."""
-    private, name = matched(r"block (\S+) (\S+)", line, "hex ..`, `home ..` or `block <private> <hex>")
-    if private not in PRIVATES or name not in board.hexes:
-        raise ValueError(f"{private} is no private, or {name} is no hex of the lines above")
-    board.blocks.append((private, name))
 
 
 def matched(form: str, line: str, shown: str) -> tuple[str, ...]:

@@ -39,7 +39,7 @@ def marked(text: str, is_changed: bool) -> str:
 
 def sheet_html(sheet: Sheet, before: Sheet) -> str:
     """A sheet as a table."""
-    heads = "".join(f"<th>{escape(it)}</th>" for it in (sheet.kind, *sheet.heads))
+    heads = "".join(f"<th>{escape(it)}</th>" for it in (sheet.title.removesuffix("s"), *sheet.heads))
     rows = ["".join(f"<td>{marked(*cell)}</td>" for cell in row) for row in sheet.compared(before)]
     body = "".join(f"<tr>{it}</tr>" for it in rows)
     return f'<h2>{sheet.title}</h2><div class="scroll"><table><tr>{heads}</tr>{body}</table></div>\n'
@@ -64,7 +64,7 @@ def due_text(view: View) -> list[str]:
 
 def sheet_text(sheet: Sheet, before: Sheet) -> Iterator[str]:
     """A sheet as lines."""
-    rows = [[sheet.kind, *sheet.heads], *([starred(*cell) for cell in row] for row in sheet.compared(before))]
+    rows = [[sheet.title.removesuffix("s"), *sheet.heads], *([starred(*cell) for cell in row] for row in sheet.compared(before))]
     widths = [max(map(len, it)) for it in zip(*rows)]
     for row in rows:
         yield "  ".join(map(str.ljust, row, widths)).rstrip()

@@ -19,12 +19,11 @@ class Sheet:
     """Some figures: rows by their names, each with its cells by the heads of their columns."""
 
     title: str
-    kind: str
     rows: dict[str, dict[str, str]]
 
     @cached_property
     def heads(self) -> list[str]:
-        """The heads of the columns in which something stands."""
+        """The heads of the columns in which something stands, after that of the names."""
         return [head for head in next(iter(self.rows.values())) if any(row[head] for row in self.rows.values())]
 
     def compared(self, before: Sheet) -> list[list[tuple[str, bool]]]:
@@ -40,34 +39,23 @@ class View:
     table: str
     stamp: int
     summary: str
-    due: list[str]
+    title: str
     choices: list[str]
     phase: str
     layout: Layout
+    tiles_left: dict[int, str]
     tokens: list[MarketToken]
     sheets: list[Sheet]
     turns: Sheet
 
-    @property
-    def title(self) -> str:
-        """Who is due, and for what."""
-        return f"{self.due[0]} is due: {self.due[1]}" if len(self.due) > 1 else "The game is over"
 
-    @property
-    def tiles_left(self) -> dict[int, str]:
-        """How many of each tile are left."""
-        return {number: f"{left} of {self.layout.kit.tiles[number].count}" for number, left in self.layout.tiles_left().items()}
-
-
-@dataclass(frozen=True)
 class Observer:
     """What is known of a table: its commands and its books by turns, and what a program answers."""
 
-    program: Program
-    table: str
-    kit: Kit
-    turns: list[list[str]]
-    books: Books
+    def __init__(self, program: Program, table: str, kit: Kit, turns: list[list[str]], books: Books) -> None:
+        self.program, self.table, self.kit, self.turns, self.books = program, table, kit, turns, books
+        self.players, self.phase = turns[0][0].split(" ")[1:], self.ask("phase")[0]
+        self.private_owners = {it: owner for owner in [*self.players, *CORPORATIONS] for it in self.ask("privates", owner)}
 
     def ask(self, query: str, *words: str) -> list[str]:
         """The answer to a query about the table."""
@@ -77,35 +65,22 @@ class Observer:
         """The money that a query answers with, if there is any."""
         return "".join(f"${it}" for it in self.ask(query, *words)[:1])
 
-    @property
-    def players(self) -> list[str]:
-        """The players, in the order of their seats."""
-        return self.turns[0][0].split(" ")[1:]
-
-    @cached_property
-    def phase(self) -> str:
-        return self.ask("phase")[0]
-
-    @cached_property
-    def private_owners(self) -> dict[str, str]:
-        """The player or the corporation that holds each private."""
-        return {it: owner for owner in [*self.players, *CORPORATIONS] for it in self.ask("privates", owner)}
-
     def view(self) -> View:
         """What is shown."""
+        due = self.ask("due")
         # While a corporation has too many trains, nothing else can be done.
         drops = [f"drop {it} KIND" for it in self.ask("order") if len(self.ask("trains", it)) > TRAIN_LIMITS[self.phase]]
-        sheets = [Sheet("Players", "Player", {it: self.player(it) for it in self.players}),
-                  Sheet("Corporations", "Corporation", {it: self.corporation(it) for it in dict.fromkeys([*self.ask("order"), *CORPORATIONS])}),
-                  Sheet("Privates", "Private", {it: self.private(it) for it in PRIVATES}),
-                  Sheet("Trains", "Train", {it: self.train(it) for it in TRAIN_LIMITS})]
+        sheets = [Sheet("Players", {it: self.player(it) for it in self.players}),
+                  Sheet("Corporations", {it: self.corporation(it) for it in dict.fromkeys([*self.ask("order"), *CORPORATIONS])}),
+                  Sheet("Privates", {it: self.private(it) for it in PRIVATES}), Sheet("Trains", {it: self.train(it) for it in TRAIN_LIMITS})]
         summary = f"Turns {self.ask('turns')[0]}, phase {self.phase}, bank {self.dollars('cash', 'bank')}, owed by it {self.dollars('iou')}"
         log = {str(number): {"Played": played(commands), "Changed": effects(entries, self.kit.chart)}
                for number, (commands, entries) in enumerate(zip(self.turns, self.books.turns))}
         blocks = [it for it in self.kit.board.blocks if it[0] in self.bids or self.private_owners.get(it[0]) in self.players]
         layout = self.books.layout(replace(self.kit, board=replace(self.kit.board, blocks=blocks)))
-        return View(self.table, int(self.ask("stamp")[0]), summary, self.ask("due"), drops or choices(self.ask("due")), self.phase, layout,
-                    list(self.books.tokens.values()), sheets, Sheet("Turns", "Turn", log))
+        tiles = {number: f"{left} of {self.kit.tiles[number].count}" for number, left in layout.tiles_left().items()}
+        return View(self.table, int(self.ask("stamp")[0]), summary, " is due: ".join(due) if due[1:] else "The game is over",
+                    drops or choices(due), self.phase, layout, tiles, list(self.books.tokens.values()), sheets, Sheet("Turns", log))
 
     def player(self, name: str) -> dict[str, str]:
         """What a player has."""
@@ -116,7 +91,7 @@ class Observer:
         count = len(privates) + sum(len(self.books.those_at(it, name)) for it in CORPORATIONS if it not in coloured)
         return {"Cash": self.dollars("cash", name), "Worth": self.dollars("worth", name), "Certificates": f"{count} of {self.ask('limit')[0]}",
                 "Shares": ", ".join(shares), "Privates": ", ".join(privates),
-                "President of": ", ".join(it for it in CORPORATIONS if self.books.president(it) == name),
+                "President of": ", ".join(it for it in CORPORATIONS if self.books.places[f"{it}-P"] == name),
                 "Priority": "yes" if name == self.priority else ""}
 
     @cached_property
@@ -133,8 +108,8 @@ class Observer:
         """What a corporation has, its place in the operating order, and where its shares are that nobody holds."""
         order, par, trains = self.ask("order"), self.books.pars.get(name), self.ask("trains", name)
         offered, tokens = self.books.percent(name, "offer"), self.kit.roster.tokens[name]
-        left = tokens - sum(it == name for it, *_ in self.books.all_of("station"))
-        return {"Order": str(order.index(name) + 1) if name in order else "", "President": self.books.president(name) or "",
+        president, left = self.books.places[f"{name}-P"], tokens - sum(it == name for it, *_ in self.books.all_of("station"))
+        return {"Order": str(order.index(name) + 1) if name in order else "", "President": "" if president == "offer" else president,
                 "Treasury": self.dollars("cash", name), "Price": self.dollars("price", name), "Cell": ",".join(self.ask("price", name)[1:]),
                 "Par": f"${par.cell(self.kit.chart).price}" if par else "",
                 "Floated": "yes" if par and offered <= 40 else f"{100 - offered}% sold",

@@ -199,7 +199,8 @@ class FiguresTest(ViewsTest):
     def compare_table(self, table: Follower, view: View) -> None:
         bank, owed, phase = table.ask("cash", "bank")[0], table.ask("iou")[0], table.ask("phase")[0]
         self.assertEqual(view.summary, f"Turns {table.ask('turns')[0]}, phase {phase}, bank ${bank}, owed by it ${owed}")
-        self.assertEqual((view.stamp, view.due, view.phase), (table.number("stamp"), table.ask("due"), phase))
+        title = "The game is over" if table.ask("due") == ["over"] else "{} is due: {}".format(*table.ask("due"))
+        self.assertEqual((view.stamp, view.title, view.phase), (table.number("stamp"), title, phase))
         for token in view.tokens:
             self.assertEqual(table.ask("price", token.corporation)[1:], [str(token.row), str(token.column)])
         self.assertEqual(sorted(it.corporation for it in view.tokens), sorted(table.ask("order")))
