@@ -12,8 +12,7 @@ from pathlib import Path
 
 from club.client import Ended, Program, Refused, Reply
 from club.kept import Kept, read_kept, turns_of
-from club.layout import Layout
-from club.links import described, hexes_of, links_of, routes_through
+from club.layout import Layout, described, hexes_of, links_of, routes_through
 from club.looking import MEMORY, view_of
 from club.pages import due_text, sheet_text
 from club.refusals import COMMANDS, QUERIES, explain, rows_under
@@ -215,7 +214,6 @@ class Evening:
         layout, names = self.layout(self.chosen()), [it.upper() for it in names]
         if strangers := set(names) - set(layout.kit.board.hexes):
             raise Mistake(f"The board has no hex {', '.join(sorted(strangers))}.")
-        links = links_of(layout)
         print(*described(layout, names), sep="\n")
 
     def undo(self, _: Sequence[str]) -> None:

@@ -4,7 +4,7 @@ from dataclasses import replace
 from html import escape
 
 from club.drawing import LINKS_SWITCH, board_svg, market_svg, page, tile_svg
-from club.links import described
+from club.layout import described
 from club.views import Sheet, View
 
 

@@ -18,9 +18,9 @@ from desk import ROOT, SECONDS, StoreTest, Terminal, recorded
 
 from club import evening
 from club.client import Ended, Program, Reply, take_lock
+from club.layout import hexes_of, links_of
 from club.evening import Evening, Mistake
 from club.kept import read_kept
-from club.links import hexes_of, links_of
 
 PLAY = str(ROOT / "club/play")
 LARGE = "operating_rounds_of_four"

@@ -14,8 +14,7 @@ from desk import ROOT, StoreTest, recorded
 
 from club.client import Program
 from club.kit import LATE_TRAINS, TEXTS, Kit, Place, read_board, read_folder
-from club.layout import Lay, Layout, Token
-from club.links import Hexside, Link, Node, Stop, hexes_of, hexside, links_of, routes_through
+from club.layout import Hexside, Lay, Layout, Link, Node, Stop, Token, hexes_of, hexside, links_of, routes_through
 
 # Recorded games without `back`, whose runs are many or have faults, and how many runs each has that were taken.
 GAMES = {"operating_rounds_on_six_hexes": 165, "operating_rounds_of_four": 106, "tiles_given_back": 4, "runs_and_certificates": 7}
