@@ -2,10 +2,7 @@
 import os
 import re
 import select
-import shutil
-import subprocess
 import sys
-import tempfile
 from collections.abc import Sequence
 from contextlib import suppress
 from pathlib import Path
@@ -13,13 +10,12 @@ from pathlib import Path
 from club.client import Ended, Program, Refused, Reply
 from club.kept import Kept, read_kept, turns_of
 from club.layout import Layout, described, hexes_of, links_of, routes_through
-from club.looking import MEMORY, view_of
-from club.pages import due_text, sheet_text
+from club.looking import view_before, view_of
+from club.pages import due_text, html_of, sheet_text
 from club.refusals import COMMANDS, QUERIES, explain, rows_under
 
 VERBS = {it[0] for it in COMMANDS}
 QUERY_LENGTHS = {it[0]: len(it) for it in QUERIES}
-PAGE = Path(__file__).with_name("page")
 QUOTED = re.compile(r"^[> \t]+| {2,}(?:ok|no|=) .*")  # what a mail puts before a line, and this prompt after it
 PASTE_SECONDS = 0.1  # for a terminal to hand over the next line of a paste
 SHOWN_LENGTH = 100  # of a line: the proof of a best run goes on for thousands
@@ -176,9 +172,11 @@ class Evening:
         for table, (turns, stamp) in self.shown.items():
             if (now := self.program.line(f"turns {table}")) != turns:
                 self.shown[table] = now, self.program.stamp(table)
-                with tempfile.TemporaryDirectory(dir=MEMORY) as folder:
-                    words = [table, "--file", shutil.copy(self.file, folder), "-o", self.file.parent, "--since", str(stamp)]
-                    subprocess.run([sys.executable, PAGE, *words, "--program", self.program.words[0]], check=False)
+                try:
+                    views = view_of(self.program, self.kept(), table), view_before(self.program, self.kept(), table, stamp)
+                    self.file.with_name(f"{table}.html").write_text(html_of(*views), encoding="utf-8")
+                except (Refused, OSError) as why:
+                    print(f"  The page of {table} isn't written: {why}")
 
     def show_run(self) -> None:
         """The routes of the run that was taken last, by the names of their hexes."""

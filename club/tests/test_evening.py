@@ -5,6 +5,7 @@ import contextlib
 import io
 import os
 import random
+import re
 import subprocess
 import sys
 import threading
@@ -16,7 +17,6 @@ from unittest import mock
 sys.path.insert(0, str(Path(__file__).resolve().parent))
 from desk import ROOT, SECONDS, StoreTest, Terminal, recorded
 
-from club import evening
 from club.client import Ended, Program, Reply, take_lock
 from club.layout import hexes_of, links_of
 from club.evening import Evening, Mistake
@@ -373,18 +373,27 @@ class InsideTest(EveningTest):
             made.send_rest([])
         self.assertIn("1 g1 buy a                     ok g1 2\n", said.getvalue())
 
-    def test_the_page_is_written_after_each_turn_from_a_copy(self) -> None:
-        store, page = self.store(), self.folder / "page"
-        page.write_text("import sys, shutil\nshutil.copy(sys.argv[3], sys.argv[5] + '/copy')\n"
-                        "print(*sys.argv[1:3], *sys.argv[6:8], file=open(sys.argv[5] + '/written', 'a'))\n")
-        made = self.evening(store)
-        with mock.patch.object(evening, "PAGE", page), contextlib.redirect_stdout(io.StringIO()):
-            for line in ("g1 open a b", "buy a", "buy b", "cash a", "buy x", "buy a", "back 0", "forget 0"):
+    def test_the_page_is_written_after_each_turn(self) -> None:
+        """Each page has the changes since the stamp of the page before. `forget` ends no turn."""
+        store = self.store()
+        made, page = self.evening(store), store.with_name("g1.html")
+        lines = ("g1 open a b", "buy a", "buy b", "cash a", "buy x", "buy a", "back 0", "forget 0")
+        for line, since in zip(lines, (0, 1, 2, None, None, 3, 4, None)):
+            page.unlink(missing_ok=True)
+            with contextlib.redirect_stdout(io.StringIO()):
                 made.take_all([line])
                 made.write_pages()
-        # Each with the changes since the stamp of the page before; `forget` ends no turn.
-        self.assertEqual((self.folder / "written").read_text(), "".join(f"g1 --file --since {it}\n" for it in range(5)))
-        self.assertEqual(self.kept(self.folder / "copy", "g1"), self.kept(store, "g1"))
+            shown = re.findall("Changes since the stamp ([0-9]+) are marked", page.read_text()) if page.exists() else []
+            self.assertEqual(shown, [] if since is None else [str(since)], line)
+
+    def test_an_evening_goes_on_without_its_page(self) -> None:
+        store = self.store()
+        made = self.evening(store)
+        store.with_name("g1.html").mkdir()
+        with contextlib.redirect_stdout(io.StringIO()) as said:
+            made.take_all(["g1 open a b"])
+            made.write_pages()
+        self.assertIn("The page of g1 isn't written: [Errno 21]", said.getvalue())
 
 
 if __name__ == "__main__":
