@@ -18,7 +18,7 @@ def html_of(view: View, before: View | None) -> str:
              for number, left in view.tiles_left.items()]
     newest_first = replace(view.turns, rows=dict(reversed(view.turns.rows.items())))
     return page(f"Table {view.table}", f"""
-<p>Stamp {view.stamp}. {view.summary}.{f" <mark>Changes since the stamp {before.stamp} are marked.</mark>" if before else ""}</p>
+<p>Stamp {view.stamp}. {view.summary}{f" <mark>Changes since the stamp {before.stamp} are marked.</mark>" if before else ""}</p>
 <h2>{escape(view.title)}</h2>
 <ul>{choices}</ul>
 <h2>Board</h2>
@@ -59,7 +59,7 @@ def text_of(view: View, before: View | None) -> str:
 
 def due_text(view: View) -> list[str]:
     """Who is due, and what can be done."""
-    return [f"{view.summary}.", f"{view.title}.", *(f"  {it}" for it in view.choices)]
+    return [view.summary, f"{view.title}.", *(f"  {it}" for it in view.choices)]
 
 
 def sheet_text(sheet: Sheet, before: Sheet) -> Iterator[str]:

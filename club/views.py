@@ -73,7 +73,8 @@ class Observer:
         sheets = [Sheet("Players", {it: self.player(it) for it in self.players}),
                   Sheet("Corporations", {it: self.corporation(it) for it in dict.fromkeys([*self.ask("order"), *CORPORATIONS])}),
                   Sheet("Privates", {it: self.private(it) for it in PRIVATES}), Sheet("Trains", {it: self.train(it) for it in TRAIN_LIMITS})]
-        summary = f"Turns {self.ask('turns')[0]}, phase {self.phase}, bank {self.dollars('cash', 'bank')}, owed by it {self.dollars('iou')}"
+        bank, owed = self.dollars("cash", "bank"), self.dollars("iou")
+        summary = f"{self.ask('turns')[0]} turns have ended. It's phase {self.phase}. The bank has {bank}, and owes {owed}."
         log = {str(number): {"Played": played(commands), "Changed": effects(entries, self.kit.chart)}
                for number, (commands, entries) in enumerate(zip(self.turns, self.books.turns))}
         blocks = [it for it in self.kit.board.blocks if it[0] in self.bids or self.private_owners.get(it[0]) in self.players]

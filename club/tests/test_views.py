@@ -198,7 +198,7 @@ class FiguresTest(ViewsTest):
 
     def compare_table(self, table: Follower, view: View) -> None:
         bank, owed, phase = table.ask("cash", "bank")[0], table.ask("iou")[0], table.ask("phase")[0]
-        self.assertEqual(view.summary, f"Turns {table.ask('turns')[0]}, phase {phase}, bank ${bank}, owed by it ${owed}")
+        self.assertEqual(view.summary, f"{table.ask('turns')[0]} turns have ended. It's phase {phase}. The bank has ${bank}, and owes ${owed}.")
         title = "The game is over" if table.ask("due") == ["over"] else "{} is due: {}".format(*table.ask("due"))
         self.assertEqual((view.stamp, view.title, view.phase), (table.number("stamp"), title, phase))
         for token in view.tokens:
