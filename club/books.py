@@ -82,7 +82,7 @@ def effects(entries: Sequence[Entry], chart: Chart) -> str:
             case ["mark", name, row, column]:
                 gains[name][f"price ${MarketToken(name, int(row), int(column)).cell(chart).price}"] += 1
             case ["lay", name, tile, _]:
-                gains["board"][f"tile {tile} on {name}"] += 1
+                gains["the board"][f"tile {tile} on {name}"] += 1
             case ["station", name, place, _]:
                 gains[name][f"token on {place}"] += 1
             case ["best", name, *_]:

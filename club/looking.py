@@ -10,7 +10,7 @@ from dataclasses import replace
 from pathlib import Path
 
 from club.books import Books, read_books
-from club.client import Program, Refused, find_program, take_lock
+from club.client import Program, Refused, take_lock
 from club.kept import Kept, read_kept, turns_of
 from club.kit import TEXTS
 from club.refusals import status_of
@@ -91,7 +91,7 @@ def played_anew(named: str, kept: Kept, table: str) -> Iterator[Program]:
         for text, data in zip(TEXTS, kept.texts):
             Path(folder, text).write_bytes(data)
         options = [word for text in TEXTS for word in (f"--{text}", f"{folder}/{text}")]
-        subprocess.run([find_program(named), "format", f"{folder}/anew", *options], check=True, stdout=subprocess.DEVNULL)
+        subprocess.run([named, "format", f"{folder}/anew", *options], check=True, stdout=subprocess.DEVNULL)
         program = Program(Path(folder, "anew"), named)
         try:
             for stamp, command in enumerate(kept.tables[table]):

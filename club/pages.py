@@ -12,7 +12,6 @@ def html_of(view: View, before: View | None) -> str:
     """The page."""
     old = before or view
     moved = {it.corporation for it in set(view.tokens) - set(old.tokens)}
-    laid = {it.hex for now, then in ((view.layout.lays, old.layout.lays), (view.layout.tokens, old.layout.tokens)) for it in now[len(then):]}
     choices = "".join(f"<li><code>{escape(it)}</code></li>" for it in view.choices)
     tiles = [(tile_svg(view.layout.kit.tiles[number]), marked(f"{number}: {left}", left != old.tiles_left[number]))
              for number, left in view.tiles_left.items()]
@@ -23,13 +22,19 @@ def html_of(view: View, before: View | None) -> str:
 <ul>{choices}</ul>
 <h2>Board</h2>
 {LINKS_SWITCH}
-<div class="scroll">{board_svg(view.layout, view.phase, laid)}</div>
+<div class="scroll">{board_svg(view.layout, view.phase, laid_since(view, old))}</div>
 <h2>Market</h2>
 <div class="scroll">{market_svg(view.layout.kit.chart, view.tokens, moved)}</div>
 {"".join(map(sheet_html, view.sheets, old.sheets))}
 <h2>Tiles left</h2>
 {"".join(f"<figure>{picture}<figcaption>{left}</figcaption></figure>" for picture, left in tiles)}
 {sheet_html(newest_first, old.turns)}""")
+
+
+def laid_since(view: View, before: View) -> set[str]:
+    """The hexes on which tiles or tokens were laid since an earlier view."""
+    pairs = (view.layout.lays, before.layout.lays), (view.layout.tokens, before.layout.tokens)
+    return {it.hex for now, then in pairs for it in now[len(then):]}
 
 
 def marked(text: str, is_changed: bool) -> str:
@@ -42,18 +47,19 @@ def sheet_html(sheet: Sheet, before: Sheet) -> str:
     heads = "".join(f"<th>{escape(it)}</th>" for it in (sheet.title.removesuffix("s"), *sheet.heads))
     rows = ["".join(f"<td>{marked(*cell)}</td>" for cell in row) for row in sheet.compared(before)]
     body = "".join(f"<tr>{it}</tr>" for it in rows)
-    return f'<h2>{sheet.title}</h2><div class="scroll"><table><tr>{heads}</tr>{body}</table></div>\n'
+    return f'<h2>{sheet.title}</h2><div class="scroll {sheet.title.lower()}"><table><tr>{heads}</tr>{body}</table></div>\n'
 
 
 def text_of(view: View, before: View | None) -> str:
     """The mail. Of the turns it has those since the earlier view, or all."""
     old, first = before or view, len(before.turns.rows) - 1 if before else 0
     tiles = [starred(f"{number}: {left}", left != old.tiles_left[number]) for number, left in view.tiles_left.items()]
+    board, laid = described(view.layout, ()), laid_since(view, old)
     log = [f"{number:>4}  {row['Played']}  [{row['Changed']}]".replace("  []", "") for number, row in view.turns.rows.items()]
     return "\n".join([
         f"Table {view.table}. Stamp {view.stamp}.{f' A star marks what changed since the stamp {before.stamp}.' if before else ''}",
         *due_text(view), "", *(line for sheets in zip(view.sheets, old.sheets) for line in sheet_text(*sheets)),
-        "Board", *described(view.layout, ()), "", "Tiles left", *(", ".join(tiles[it:it + 6]) for it in range(0, len(tiles), 6)), "",
+        "Board", *(starred(it, it.split(" ")[0] in laid) for it in board), "", "Tiles left", *(", ".join(tiles[it:it + 6]) for it in range(0, len(tiles), 6)), "",
         "Turns", *log[first:], ""])
 
 

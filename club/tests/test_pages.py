@@ -247,15 +247,16 @@ class MarksTest(PagesTest):
         kept = read_kept(store.read_bytes())
         views = view_of(program, kept, "tiles"), view_before(program, kept, "tiles", 46)
         page, cells = html_of(*views), ["$785", "$1165", "2 of 28", "D&H, C&A", "2", "3", "$520", "$50", "5,3", "SV", "PRR"]
-        turn = ["28", "PRR: lay B 14 1, private SV 10, hold, end", "board: tile 14 on B; PRR: private SV, −$10, price $50; a: +$10"]
+        turn = ["28", "PRR: lay B 14 1, private SV 10, hold, end", "the board: tile 14 on B; PRR: private SV, −$10, price $50; a: +$10"]
         marks = [unescape(it) for it in re.findall("<mark>(.*?)</mark>", page)]
         self.assertEqual(marks, ["Changes since the stamp 46 are marked.", *cells, "57: 1 of 1", "14: 0 of 1", *turn])
         board, market = [classes(it) for it in re.findall("(?s)<svg.*?</svg>", page)][:2]
         self.assertEqual((board.count("changed"), market.count("changed")), (1, 1))
         self.assertIn('<g class="hex green changed"><title>B green</title>', page)
         mail = text_of(*views)
-        self.assertEqual(re.findall(r"(\S+)\*", mail), [it.split(" ")[-1] for it in [*cells, "57: 1 of 1", "14: 0 of 1"]])
-        self.assertIn("Turns\n  27  PRR: lay B 14 1, private SV 10, hold, end  [board: tile 14 on B; PRR:", mail)
+        # The line of hex B ends with PRR's token.
+        self.assertEqual(re.findall(r"(\S+)\*", mail), [it.split(" ")[-1] for it in [*cells, "PRR on city 1", "57: 1 of 1", "14: 0 of 1"]])
+        self.assertIn("Turns\n  27  PRR: lay B 14 1, private SV 10, hold, end  [the board: tile 14 on B; PRR:", mail)
 
 
 class CommandsTest(PagesTest):

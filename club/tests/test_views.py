@@ -203,7 +203,11 @@ class FiguresTest(ViewsTest):
         self.assertEqual((view.stamp, view.title, view.phase), (table.number("stamp"), title, phase))
         for token in view.tokens:
             self.assertEqual(table.ask("price", token.corporation)[1:], [str(token.row), str(token.column)])
-        self.assertEqual(sorted(it.corporation for it in view.tokens), sorted(table.ask("order")))
+        # In one cell the token that came first operates first, and is on top.
+        cells = {name: tuple(table.ask("price", name)[1:]) for name in table.ask("order")}
+        for cell in set(cells.values()):
+            stack = [it.corporation for it in view.tokens if (str(it.row), str(it.column)) == cell]
+            self.assertEqual(stack, [name for name in cells if cells[name] == cell])
 
 
 class ByHandTest(ViewsTest):
@@ -233,6 +237,14 @@ class ByHandTest(ViewsTest):
         lays = {(it.hex, it.tile, it.turn) for it in map(layout.last_lay, layout.kit.board.hexes) if it}
         self.assertEqual(lays, {("B", 63, 0), ("G", 57, 0), ("C", 9, 2), ("K", 9, 0)})
         self.assertEqual([(it.corporation, it.hex, it.centre) for it in layout.tokens], [("PRR", it, 1) for it in "ABG"])
+
+    def test_hexes_that_are_blocked(self) -> None:
+        """By about.txt of the same game: SV blocks C until PRR holds it in turn 27, D&H blocks K until the first 5 closes it in turn 34."""
+        blocks = {}
+        for follower in self.turns_of_game("tiles_given_back", "tiles"):
+            blocks[follower.number("turns")] = follower.look()[0].layout.kit.board.blocks
+        both = [("D&H", "K"), ("SV", "C")]
+        self.assertEqual([blocks[it] for it in (18, 26, 27, 33, 34, 39)], [both, both, both[:1], both[:1], [], []])
 
     def test_certificates_that_count(self) -> None:
         """By the lines of `equal_heirs`, as above: of three players each may have 20.
