@@ -216,6 +216,7 @@ class TerminalTest(EveningTest):
         self.assertIn("There is no table yet", self.say(terminal, "buy ann"))
         self.assertIn("0 g1 open ann bob              ok g1 1\ng1 1 ann auction> ", self.say(terminal, "g1 open ann bob"))
         self.assertIn("1 g1 buy ann                   ok g1 2\ng1 2 bob auction> ", self.say(terminal, "buy ann"))
+        self.assertIn("<h2>bob is due: auction</h2>", store.with_name("g1.html").read_text())
         self.assertIn("bob is due (auction).", self.say(terminal, "buy ann"))
         self.assertIn("Is it `D&H`?", self.say(terminal, "bid bob dh 75"))
         self.assertIn("The bid must be at least 75.", self.say(terminal, "bid bob D&H 70"))

@@ -213,6 +213,19 @@ class StructureTest(PagesTest):
             lines = wanted.strip().splitlines()
             self.assertEqual([" | ".join(row).replace("|  |", "| |").replace("|  |", "| |").rstrip() for row in rows][:len(lines)], lines)
 
+    def test_the_turns_of_a_game(self) -> None:
+        """By the lines of `equal_heirs`, in which privates have no incomes; in turn 14 60% of NYC are sold, and in 26 PRR's turn begins."""
+        store, program = self.played("equal_heirs")
+        rows = view_of(program, read_kept(store.read_bytes()), "heirs").turns.rows
+        self.assertEqual(len(rows), 29)
+        wanted = {"0": ("open a b c", "a: +$800; b: +$800; c: +$800"), "1": ("a: buy", "a: private SV, −$10"),
+                  "5": ("b: buy", "b: private C&A, −$50, PRR 10%"), "7": ("a: done", ""),
+                  "6": ("c: buy, par B&O 67", "c: private B&O, −$60, B&O 20%; B&O: price $67"),
+                  "8": ("b: par NYC 67, done", "NYC: price $67; b: NYC 20%, −$134"),
+                  "14": ("b: buy NYC offer, done", "b: NYC 10%, −$67; NYC: +$670"), "26": ("b: done", "PRR: token on A")}
+        self.assertEqual({it: tuple(rows[it].values()) for it in wanted}, wanted)
+        self.assertEqual(rows["27"]["Played"], "PRR: hold; b: raise NYC 2, raise PRR 4, raise NYC 1; PRR: force, end")
+
     def test_choices(self) -> None:
         """By docs/REFERENCE.md: in the auction one buys the cheapest private, bids or passes; after `hold` one deals with trains."""
         wanted = {("first_game", "g1"): ["buy b", "bid b PRIVATE DOLLARS", "pass b"],
