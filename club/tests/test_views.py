@@ -238,6 +238,31 @@ class ByHandTest(ViewsTest):
         self.assertEqual(lays, {("B", 63, 0), ("G", 57, 0), ("C", 9, 2), ("K", 9, 0)})
         self.assertEqual([(it.corporation, it.hex, it.centre) for it in layout.tokens], [("PRR", it, 1) for it in "ABG"])
 
+    def test_trains_that_the_bank_sells(self) -> None:
+        """By the lines of `trains_of_every_kind` up to these stamps; there are three of each of 2, 3 and 4, and two of the others.
+
+        54: B&O has bought the 2s and a 3. 62: PRR two 3s and a 4. 67: NYC two 4s. 79: CPR and B&O a 5 each. 86: CPR the first 6, so that a
+        D is sold beside the other. 89: B&O has traded for a D. 92: PRR has bought the other D. 95: NYC the other 6.
+        """
+        wanted = {54: "3", 62: "4", 67: "5", 79: "6", 86: "6 D", 89: "6 D", 92: "6", 95: ""}
+        for follower in self.turns_of_game("trains_of_every_kind", "kinds"):
+            if (stamp := follower.number("stamp")) in wanted:
+                rows = rows_on_page(follower.look()[0])["Trains"]
+                self.assertEqual(" ".join(it for it in rows if "bank" in rows[it].get("On sale", "")), wanted.pop(stamp))
+        self.assertEqual(wanted, {})
+
+    def test_priority(self) -> None:
+        """By the lines of `shares_and_the_pool`, as above: after a purchase or a sale it's left of who traded, after a `done` as before.
+
+        In turn 20 d bought, in 26 a; in 32, 33 and 35 b, c and a sold; in 38 d bought.
+        """
+        wanted = {20: "a", 26: "b", 30: "b", 32: "c", 33: "d", 34: "d", 35: "b", 37: "b", 38: "a", 42: "a"}
+        for follower in self.turns_of_game("shares_and_the_pool", "p1"):
+            if (turn := follower.number("turns")) in wanted:
+                rows = rows_on_page(follower.look()[0])["Players"]
+                self.assertEqual([it for it in rows if rows[it].get("Priority")], [wanted.pop(turn)])
+        self.assertEqual(wanted, {})
+
     def test_hexes_that_are_blocked(self) -> None:
         """By about.txt of the same game: SV blocks C until PRR holds it in turn 27, D&H blocks K until the first 5 closes it in turn 34."""
         blocks = {}
