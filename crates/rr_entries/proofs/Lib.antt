@@ -1,2 +1,2 @@
-pub mod SeparatorLemmas
+pub mod WritingLemmas
 pub mod OpeningLemmas

@@ -16,7 +16,7 @@ use Rattle.rr_books.specs.declared.entries.Entry.TheVariants as E
 use Rattle.rr_books.specs.declared.parties.Place.TheVariants as L
 use Rattle.rr_books.specs.declared.entries.Marker.TheVariants as M
 use Rattle.rr_auction.specs.Opening.{opened}
-use Rattle.rr_entries.specs.Opening.{numbered, offered}
+use Rattle.rr_entries.specs.Opening.{train_offered, offered}
 
 map-flat_map : {X Y Z : Type 0} (f : Y → Z) (g : X → List Y) (xs : List X) → map f (flat_map g xs) ≡ flat_map (λ x. map f (g x)) xs
 map-flat_map f g [] = refl
@@ -39,12 +39,12 @@ all_offered roster =
     ∙ ap (λ (l : Book). map offered (map (λ p. C.Private p) privates) ++ l) (map-flat_map offered certificates_of (order_of roster))
 
 -- all trains
-pub all_trains : (roster : Terms) → opening_trains roster ≡ flat_map (λ k. map (numbered k) (range_with_len 1 (count_of roster k))) kinds
+pub all_trains : (roster : Terms) → opening_trains roster ≡ flat_map (λ k. map (train_offered k) (range_with_len 1 (count_of roster k))) kinds
 unfolding opening_trains
 all_trains roster =
     let on_offer : Train → Entry = λ t. E.Train t L.Offer in
     map-flat_map on_offer (trains_of roster) kinds
-    ∙ flat_map-same (λ (k : Kind). map on_offer (trains_of roster k)) (λ (k : Kind). map (numbered k) (range_with_len 1 (count_of roster k))) kinds
+    ∙ flat_map-same (λ (k : Kind). map on_offer (trains_of roster k)) (λ (k : Kind). map (train_offered k) (range_with_len 1 (count_of roster k))) kinds
     (λ k. map-map on_offer (λ (n : ℕ). record { kind = k; number = n }) (range_with_len 1 (count_of roster k)))
 
 -- entries with one more, and with those of one more

@@ -11,5 +11,5 @@ abbrev pub offered : Cert → Entry
 offered cert = E.Move cert L.Offer
 
 -- the train of a kind with this number is offered
-abbrev pub numbered : Kind → ℕ → Entry
-numbered kind number = E.Train (record { kind = kind; number = number }) L.Offer
+abbrev pub train_offered : Kind → ℕ → Entry
+train_offered kind number = E.Train (record { kind = kind; number = number }) L.Offer

@@ -1,5 +1,5 @@
 -- The entries of a table's book as words.
-use Rattle.std.specs.Prelude.{ℕ, pos, List, [], ◌∷◌, ◌++◌, codes, decimal, drop, get_or, if◌then◌else◌}
+use Rattle.std.specs.Prelude.{ℕ, Bool, true, false, pos, List, [], ◌∷◌, ◌++◌, codes, decimal, filter, get_or, map, if◌then◌else◌}
 use Rattle.std.specs.Fmt.{signed_decimal}
 use Rattle.std.specs.List.{flat_map}
 use Rattle.std.specs.Ordering.{int_eq}
@@ -43,8 +43,8 @@ place_word players L.Offer = codes "offer"
 place_word players L.Pool = codes "pool"
 place_word players L.Gone = codes "gone"
 
--- a certificate: a private's name, or its corporation's name with `P` for the president's certificate (20%) and a number
--- from 1 for one of 10%
+-- a certificate: a private's name, or its corporation's name with `P` for the president's
+-- certificate (20%) and a number from 1 for one of 10%
 abbrev pub certificate_word : Cert → List ℕ
 certificate_word (C.Private private) = private_name private
 certificate_word (C.President corp) = corp_name corp ++ codes "-" ++ codes "P"
@@ -59,19 +59,30 @@ abbrev pub sheet_words : List ℕ → List (List ℕ)
 sheet_words [] = []
 sheet_words (c ∷ rest) = (c ∷ rest) ∷ []
 
--- the words of an entry, after the separator; a payment of 0 and a step have no words
+-- the words of an entry; a step and a payment of 0 have none
 abbrev pub entry_words : List (List ℕ) → Entry → List (List ℕ)
 entry_words players (E.Pay from to amount) =
     if int_eq amount.0 (pos 0) then []
-    else codes ";" ∷ codes "pay" ∷ party_word players from ∷ party_word players to ∷ signed_decimal amount.0 ∷ []
-entry_words players (E.Move cert to) = codes ";" ∷ codes "move" ∷ certificate_word cert ∷ place_word players to ∷ []
-entry_words players (E.Mark corp cell) = codes ";" ∷ codes "mark" ∷ corp_name corp ∷ decimal cell.row ∷ decimal cell.column ∷ []
-entry_words players (E.Lay hex tile turn) = codes ";" ∷ codes "lay" ∷ hex ∷ decimal tile ∷ decimal turn ∷ []
-entry_words players (E.Station corp hex centre) = codes ";" ∷ codes "station" ∷ corp_name corp ∷ hex ∷ decimal centre ∷ []
-entry_words players (E.Train train to) = codes ";" ∷ codes "train" ∷ train_word train ∷ place_word players to ∷ []
-entry_words players (E.Best corp sheet certificate) = codes ";" ∷ codes "best" ∷ corp_name corp ∷ sheet_words sheet
+    else codes "pay" ∷ party_word players from ∷ party_word players to ∷ signed_decimal amount.0 ∷ []
+entry_words players (E.Move cert to) = codes "move" ∷ certificate_word cert ∷ place_word players to ∷ []
+entry_words players (E.Mark corp cell) = codes "mark" ∷ corp_name corp ∷ decimal cell.row ∷ decimal cell.column ∷ []
+entry_words players (E.Lay hex tile turn) = codes "lay" ∷ hex ∷ decimal tile ∷ decimal turn ∷ []
+entry_words players (E.Station corp hex centre) = codes "station" ∷ corp_name corp ∷ hex ∷ decimal centre ∷ []
+entry_words players (E.Train train to) = codes "train" ∷ train_word train ∷ place_word players to ∷ []
+entry_words players (E.Best corp sheet certificate) = codes "best" ∷ corp_name corp ∷ sheet_words sheet
 entry_words players (E.Step marker) = []
 
--- the words of entries, with a separator between each two: the one before the first is dropped
+-- whether there is a word
+abbrev pub has_words : List (List ℕ) → Bool
+has_words [] = false
+has_words (word ∷ words) = true
+
+-- all these words, with the word `;` between each two lists of them
+abbrev pub separated : List (List (List ℕ)) → List (List ℕ)
+separated [] = []
+separated (words ∷ []) = words
+separated (words ∷ next ∷ rest) = words ++ codes ";" ∷ separated (next ∷ rest)
+
+-- the words of the entries that have any, with the word `;` between each two entries
 abbrev pub book_words : List (List ℕ) → Book → List (List ℕ)
-book_words players entries = drop 1 (flat_map (entry_words players) entries)
+book_words players entries = separated (filter has_words (map (entry_words players) entries))

@@ -21,7 +21,8 @@ pub(crate) fn write_certificate(cert: Cert, text: &mut Vec<u8>) -> Result<(), Al
     }
 }
 
-/// Writes a train's name after a space: its kind, and its number among the trains of the kind, from 1.
+/// Writes a train's name after a space: its kind, and its number among the trains of the kind, from
+/// 1.
 pub(crate) fn write_train_name(train: Train, text: &mut Vec<u8>) -> Result<(), AllocError>
     ensures { OnOk result (text.new.items ≡ text.old.items ++ spaced (train_word train ∷ [])) }
 {

@@ -1,9 +1,8 @@
-//! The words of entries, each entry after a separator.
-ghost use Rattle.std.specs.Prelude.{◌≡◌, ◌++◌, [], ◌∷◌, List, ℕ, codes, IfOk, OnOk};
-ghost use Rattle.std.specs.List.{flat_map};
+//! The words of entries, with a separator between each two.
+ghost use Rattle.std.specs.Prelude.{◌≡◌, ◌++◌, [], ◌∷◌, List, ℕ, IfOk, OnOk};
 ghost use Rattle.rr_books.specs.declared.entries.Entry.{Entry as AnyEntry};
-ghost use Rattle.rr_books.specs.Book.{Book};
 ghost use Rattle.rr_entries.specs.Words.{book_words, entry_words, joined, spaced};
+ghost use Rattle.rr_entries.specs.Writing.{separator_after, with_entries, with_words};
 
 use crate::certificates::{write_certificate, write_train_name};
 use crate::places::{party_word, place_word};
@@ -14,15 +13,15 @@ use rr_roster::Corp;
 use rr_words::{HexName, Name};
 use std::alloc::{AllocError, Global};
 
-/// The words of the entries of several commands: each word after a space, and each entry after the separator `;`. A step
-/// has no words, and neither has a payment of 0. `players` are the names in seating order; the entries of each command are
-/// a list of their own.
+/// The words of the entries of several commands: each word after a space, and the word `;` between
+/// each two entries. A step has no words, and neither has a payment of 0; they get no separator.
+/// `players` are the names in seating order; the entries of each command are a list of their own.
 ///
 /// # Errors
 ///
 /// `AllocError` alone.
 pub fn text_of(alloc: Global, players: &[Name], books: &[Entries]) -> Result<Vec<u8>, AllocError>
-    ensures { IfOk result (λ text. text.items ≡ spaced (flat_map (entry_words players.now) (joined books.now))) }
+    ensures { IfOk result (λ text. text.items ≡ spaced (book_words players.now (joined books.now))) }
 {
     let mut text = Vec::new(alloc);
     for entries in books {
@@ -31,19 +30,8 @@ pub fn text_of(alloc: Global, players: &[Name], books: &[Entries]) -> Result<Vec
     Ok(text)
 }
 
-/// The words of entries without the separator before the first entry.
-pub fn without_first_separator(text: &[u8]) -> &[u8]
-    ensures { (players : List (List ℕ)) (book : Book) → text.now ≡ spaced (flat_map (entry_words players) book) →
-        result.now ≡ spaced (book_words players book) }
-{
-    match text.get(2..) {
-        Some(words) => words,
-        None => &[],
-    }
-}
-
 fn write_entries(players: &[Name], entries: &[Entry], text: &mut Vec<u8>) -> Result<(), AllocError>
-    ensures { OnOk result (text.new.items ≡ text.old.items ++ spaced (flat_map (entry_words players.now) entries.now)) }
+    ensures { OnOk result (text.new.items ≡ with_entries players.now text.old.items entries.now) }
 {
     for entry in entries {
         write_entry(players, entry, text)?;
@@ -52,7 +40,7 @@ fn write_entries(players: &[Name], entries: &[Entry], text: &mut Vec<u8>) -> Res
 }
 
 fn write_entry(players: &[Name], entry: &Entry, text: &mut Vec<u8>) -> Result<(), AllocError>
-    ensures { OnOk result (text.new.items ≡ text.old.items ++ spaced (entry_words players.now entry.now)) }
+    ensures { OnOk result (text.new.items ≡ with_words text.old.items (entry_words players.now entry.now)) }
 {
     match entry {
         Entry::Pay { from, to, amount } => write_payment(players, *from, *to, *amount, text),
@@ -77,7 +65,7 @@ fn write_payment(
     amount: Money,
     text: &mut Vec<u8>,
 ) -> Result<(), AllocError>
-    ensures { OnOk result (text.new.items ≡ text.old.items ++ spaced (entry_words players.now (AnyEntry.Pay from to amount))) }
+    ensures { OnOk result (text.new.items ≡ with_words text.old.items (entry_words players.now (AnyEntry.Pay from to amount))) }
 {
     if amount.0 == 0 {
         return Ok(());
@@ -89,7 +77,7 @@ fn write_payment(
 }
 
 fn write_move(players: &[Name], cert: Cert, to: Place, text: &mut Vec<u8>) -> Result<(), AllocError>
-    ensures { OnOk result (text.new.items ≡ text.old.items ++ spaced (entry_words players.now (AnyEntry.Move cert to))) }
+    ensures { OnOk result (text.new.items ≡ with_words text.old.items (entry_words players.now (AnyEntry.Move cert to))) }
 {
     write_head(b"move", text)?;
     write_certificate(cert, text)?;
@@ -97,7 +85,7 @@ fn write_move(players: &[Name], cert: Cert, to: Place, text: &mut Vec<u8>) -> Re
 }
 
 fn write_mark(corp: Corp, cell: Cell, text: &mut Vec<u8>) -> Result<(), AllocError>
-    ensures { (players : List (List ℕ)) → OnOk result (text.new.items ≡ text.old.items ++ spaced (entry_words players (AnyEntry.Mark corp cell))) }
+    ensures { (players : List (List ℕ)) → OnOk result (text.new.items ≡ with_words text.old.items (entry_words players (AnyEntry.Mark corp cell))) }
 {
     write_head(b"mark", text)?;
     write_word(corp.name().as_bytes(), text)?;
@@ -106,7 +94,7 @@ fn write_mark(corp: Corp, cell: Cell, text: &mut Vec<u8>) -> Result<(), AllocErr
 }
 
 fn write_lay(hex: &HexName, tile: u16, turn: u8, text: &mut Vec<u8>) -> Result<(), AllocError>
-    ensures { (players : List (List ℕ)) → OnOk result (text.new.items ≡ text.old.items ++ spaced (entry_words players (AnyEntry.Lay hex.now tile turn))) }
+    ensures { (players : List (List ℕ)) → OnOk result (text.new.items ≡ with_words text.old.items (entry_words players (AnyEntry.Lay hex.now tile turn))) }
 {
     write_head(b"lay", text)?;
     write_word(hex.as_bytes(), text)?;
@@ -120,7 +108,7 @@ fn write_station(
     centre: u64,
     text: &mut Vec<u8>,
 ) -> Result<(), AllocError>
-    ensures { (players : List (List ℕ)) → OnOk result (text.new.items ≡ text.old.items ++ spaced (entry_words players (AnyEntry.Station corp hex.now centre))) }
+    ensures { (players : List (List ℕ)) → OnOk result (text.new.items ≡ with_words text.old.items (entry_words players (AnyEntry.Station corp hex.now centre))) }
 {
     write_head(b"station", text)?;
     write_word(corp.name().as_bytes(), text)?;
@@ -134,7 +122,7 @@ fn write_train(
     to: Place,
     text: &mut Vec<u8>,
 ) -> Result<(), AllocError>
-    ensures { OnOk result (text.new.items ≡ text.old.items ++ spaced (entry_words players.now (AnyEntry.Train train to))) }
+    ensures { OnOk result (text.new.items ≡ with_words text.old.items (entry_words players.now (AnyEntry.Train train to))) }
 {
     write_head(b"train", text)?;
     write_train_name(train, text)?;
@@ -142,7 +130,7 @@ fn write_train(
 }
 
 fn write_best(corp: Corp, sheet: &[u8], text: &mut Vec<u8>) -> Result<(), AllocError>
-    ensures { (players : List (List ℕ)) (certificate : List ℕ) → OnOk result (text.new.items ≡ text.old.items ++ spaced (entry_words players (AnyEntry.Best corp sheet.now certificate))) }
+    ensures { (players : List (List ℕ)) (certificate : List ℕ) → OnOk result (text.new.items ≡ with_words text.old.items (entry_words players (AnyEntry.Best corp sheet.now certificate))) }
 {
     write_head(b"best", text)?;
     write_word(corp.name().as_bytes(), text)?;
@@ -152,10 +140,20 @@ fn write_best(corp: Corp, sheet: &[u8], text: &mut Vec<u8>) -> Result<(), AllocE
     write_word(sheet, text)
 }
 
-// The separator and the first word of an entry.
+// The first word of an entry, after a separator if an earlier entry has words.
 fn write_head(word: &[u8], text: &mut Vec<u8>) -> Result<(), AllocError>
-    ensures { OnOk result (text.new.items ≡ text.old.items ++ spaced (codes ";" ∷ word.now ∷ [])) }
+    ensures { OnOk result (text.new.items ≡ text.old.items ++ separator_after text.old.items ++ spaced (word.now ∷ [])) }
 {
-    write_word(b";", text)?;
+    write_separator(text)?;
     write_word(word, text)
+}
+
+// The text is empty until an entry with words is written.
+fn write_separator(text: &mut Vec<u8>) -> Result<(), AllocError>
+    ensures { OnOk result (text.new.items ≡ text.old.items ++ separator_after text.old.items) }
+{
+    if text.is_empty() {
+        return Ok(());
+    }
+    write_word(b";", text)
 }

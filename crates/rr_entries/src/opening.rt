@@ -5,7 +5,7 @@ ghost use Rattle.rr_books.specs.Opening.{opening_payments, opening_trains};
 ghost use Rattle.rr_books.specs.Shares.{certificates_of, privates};
 ghost use Rattle.rr_books.specs.declared.refusal.Refusal.TheVariants.{OutOfMemory};
 ghost use Rattle.rr_auction.specs.Opening.{opened};
-ghost use Rattle.rr_entries.specs.Opening.{numbered, offered};
+ghost use Rattle.rr_entries.specs.Opening.{train_offered, offered};
 
 use rr_books::{
     Cert, Corp, Entry, Kind, Marker, Names, Party, Place, Private, Refusal, Seat, ShareNumber,
@@ -16,8 +16,9 @@ use rr_roster::Roster;
 use rr_words::Name;
 use std::alloc::Global;
 
-/// The entries with which a table of these players opens, oldest first: each player gets the starting money, all
-/// certificates and trains are offered, and the auction begins. `players` are the names in seating order.
+/// The entries with which a table of these players opens, oldest first: each player gets the starting
+/// money, all certificates and trains are offered, and the auction begins. `players` are the names in
+/// seating order.
 ///
 /// # Errors
 ///
@@ -110,7 +111,7 @@ fn offer_trains(roster: &Roster, entries: &mut Entries) -> Result<(), Refusal>
 
 fn offer_kind(kind: Kind, count: u8, entries: &mut Entries) -> Result<(), Refusal>
     requires { count ≤ 20 }
-    ensures ok { OnOk result (entries.new ≡ entries.old ++ map (numbered kind) (range_with_len 1 count)) }
+    ensures ok { OnOk result (entries.new ≡ entries.old ++ map (train_offered kind) (range_with_len 1 count)) }
     ensures memory { IsOkUnless result OutOfMemory }
 {
     for before in 0..count {

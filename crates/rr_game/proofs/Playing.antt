@@ -12,7 +12,7 @@ use Rattle.rr_rules.specs.Playing.{entries_after, state_after}
 use Rattle.rr_rules.specs.State.{AtTable, GameState, IsStandingOf}
 use Rattle.rr_game.specs.Keeping.{IsGameOf}
 use Rattle.rr_game.specs.Names.{act_of}
-use Rattle.rr_game.specs.Play.{begins_with_opening, entries_by, entries_with, opened_state, play, played_on, players_of, state_with}
+use Rattle.rr_game.specs.Play.{begins_with_opening, entries_of_command, entries_of_act, opened_state, play, played_on, players_of, state_with}
 use Rattle.rr_game.specs.Turning.{ends_turn}
 use Rattle.rr_turns.specs.Ends.{turn_ends}
 
@@ -82,18 +82,18 @@ stepped kit accepted c old new h more same standing ends =
 
 -- the entries that a command adds to the book, by the act that it names
 pub added : (kit : Kit) (accepted : List Command) (c : Command) (act : Act) (old : Game) (es : Book) → IsGameOf kit accepted old → act_of old.players c ≡ Some act
-    → es ≡ entries_after kit (play kit accepted) act → es ≡ entries_by kit accepted c
+    → es ≡ entries_after kit (play kit accepted) act → es ≡ entries_of_command kit accepted c
 added kit accepted c act old es h named is =
     let state = play kit accepted in
-    is ∙ ap (entries_with kit state) (sym named) ∙ ap (λ (ps : List (List ℕ)). entries_with kit state (act_of ps c)) h.players
+    is ∙ ap (entries_of_act kit state) (sym named) ∙ ap (λ (ps : List (List ℕ)). entries_of_act kit state (act_of ps c)) h.players
 
-with_act : (kit : Kit) (state : GameState) (act : Option Act) → (state_with kit state act).book ≡ state.book ++ entries_with kit state act
+with_act : (kit : Kit) (state : GameState) (act : Option Act) → (state_with kit state act).book ≡ state.book ++ entries_of_act kit state act
 with_act kit state None = sym (append-nil state.book)
 with_act kit state (Some act) = refl
 
 -- the book after a command
 pub book_more : (kit : Kit) (accepted : List Command) (c : Command) → begins_with_opening accepted ≡ true
-    → (play kit (accepted ++ c ∷ [])).book ≡ (play kit accepted).book ++ entries_by kit accepted c
+    → (play kit (accepted ++ c ∷ [])).book ≡ (play kit accepted).book ++ entries_of_command kit accepted c
 book_more kit accepted c h =
     let on = goes_on kit accepted c h in
     ap (λ (s : GameState). s.book) on.state ∙ with_act kit (play kit accepted) (act_of (players_of accepted) c)

@@ -1,5 +1,5 @@
 -- What the names in commands and queries stand for at a table.
-use Rattle.std.specs.Prelude.{ℕ, List, [], Option, None, Some, option_and_then, option_map, bytes_eq, get_or, position}
+use Rattle.std.specs.Prelude.{ℕ, List, [], Option, None, Some, option_and_then, option_map, bytes_eq, position}
 use Rattle.rr_books.specs.declared.acts.Act.{Act}
 use Rattle.rr_books.specs.declared.acts.Act.TheVariants as A
 use Rattle.rr_books.specs.declared.parties.Seat.{Seat}
@@ -18,10 +18,6 @@ use Rattle.rr_orders.specs.declared.order.Order.TheVariants as O
 -- the seat of a player: the place of the name in the seating order
 abbrev pub seat_of : List (List ℕ) → List ℕ → Option Seat
 seat_of players name = option_map (λ n. record { 0 = n }) (position (λ other. bytes_eq other name) players)
-
--- the name of the player at a seat, and none at a seat that the table doesn't have
-abbrev pub player_word : List (List ℕ) → Seat → List ℕ
-player_word players seat = get_or players seat.0 []
 
 -- the party whose account it is
 abbrev pub party_of : List (List ℕ) → Account → Option Party

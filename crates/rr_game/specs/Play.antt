@@ -35,13 +35,13 @@ play kit (Open players ∷ commands) = fold (played_on kit players) (opened_stat
 play kit _ = record { book = []; revenue = record { 0 = pos 0 } }
 
 -- the entries that an accepted act adds to the book
-abbrev pub entries_with : Kit → GameState → Option Act → Book
-entries_with kit state None = []
-entries_with kit state (Some act) = entries_after kit state act
+abbrev pub entries_of_act : Kit → GameState → Option Act → Book
+entries_of_act kit state None = []
+entries_of_act kit state (Some act) = entries_after kit state act
 
--- the entries that a command adds after the accepted ones
-abbrev pub entries_by : Kit → List Command → Command → Book
-entries_by kit accepted command = entries_with kit (play kit accepted) (act_of (players_of accepted) command)
+-- the entries that a command adds to the book of the accepted commands
+abbrev pub entries_of_command : Kit → List Command → Command → Book
+entries_of_command kit accepted command = entries_of_act kit (play kit accepted) (act_of (players_of accepted) command)
 
 -- the commands begin with the opening
 abbrev pub begins_with_opening : List Command → Bool

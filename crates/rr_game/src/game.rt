@@ -3,7 +3,7 @@ ghost use Rattle.std.proofs.Props.{props};
 ghost use Rattle.rr_turns.specs.declared.limits.TheConstants.{MOST_COMMANDS};
 ghost use Rattle.rr_rules.specs.State.{GameState, IsStandingOf};
 ghost use Rattle.rr_game.specs.Names.{amount_in};
-ghost use Rattle.rr_game.specs.Play.{entries_by, play, players_of};
+ghost use Rattle.rr_game.specs.Play.{entries_of_command, play, players_of};
 ghost use Rattle.rr_game.specs.Turning.{AreWithin};
 ghost use Rattle.rr_game.specs.Verdict.{command_judgement, over_verdict};
 ghost use Rattle.rr_turns.specs.Judgement.{IsVerdict, MayFind};
@@ -101,7 +101,7 @@ impl Game {
             (λ _. IsVerdict (command_judgement kit.now (players_of accepted) (play kit.now accepted) command.now) None)
             (λ fault. MayFind (command_judgement kit.now (players_of accepted) (play kit.now accepted) command.now) Refusal.OutOfMemory fault) }
         ensures entries { IfOk result (λ entries. (accepted : List Line) → IsGameOf kit.now accepted self.now →
-            entries ≡ entries_by kit.now accepted command.now) }
+            entries ≡ entries_of_command kit.now accepted command.now) }
     {
         let applied = self.apply(alloc, command, kit)?;
         Ok(applied.entries)
@@ -126,7 +126,7 @@ impl Game {
         ensures game { IfOk result (λ applied. (accepted : List Line) → IsGameOf kit.now accepted self.now →
             IsGameOf kit.now (accepted ++ command.now ∷ []) applied.game) }
         ensures entries { IfOk result (λ applied. (accepted : List Line) → IsGameOf kit.now accepted self.now →
-            applied.entries ≡ entries_by kit.now accepted command.now) }
+            applied.entries ≡ entries_of_command kit.now accepted command.now) }
         ensures played { IfOk result (λ applied. applied.game.played ≡ self.now.played + 1) }
     {
         self.judge_end(kit)?;

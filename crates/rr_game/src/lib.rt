@@ -4,6 +4,8 @@
 //!
 //! - `Game::step` is refused exactly by `command_judgement`, except that 70 may come after the checks that allocate
 //!   nothing, and keeps `IsGameOf`. Each query is its definition over the book.
+//! - `Game::entries` returns exactly what a lawful command adds to the book, and `Table::book` exactly the entries of a
+//!   turn that can be read; it refuses the others (`book_verdict`), and with 70 only if nothing else refuses.
 //! - A game made again of its plain values is that game. Bytes are those of at most one game's values.
 //! - `Table::step`, `take_back` and `forget` are refused exactly by `request_judgement`, apart from running out of
 //!   memory. From the nearest snapshot fewer than 64 commands lead to any turn to which a table with its snapshots can

@@ -1,5 +1,6 @@
--- A command of the auction adds no run as best, and moves no train.
-use Rattle.std.specs.Prelude.{◌≡◌, ℕ, Bool, true, false, List, [], Option, None, Some, option_map, refl}
+-- What a command of the auction adds is of no corporation's turn, and moves no train.
+use Rattle.std.specs.Prelude.{◌≡◌, ℕ, Bool, true, false, ◌&&◌, List, [], Option, None, Some, option_map, refl}
+use Rattle.std.proofs.Common.{ap}
 use Rattle.std.specs.List.{list_all}
 use Rattle.rr_roster.specs.declared.company.Private.{Private}
 use Rattle.rr_roster.specs.declared.company.Corp.{Corp}
@@ -26,10 +27,10 @@ use Rattle.rr_market.specs.Moves.{cell_of, par_marks}
 use Rattle.rr_auction.specs.Effects.{brings_incomes, entries_of, gift, incomes_if, is_over, may_end, pass_of, purchase_of, row, said, sale, sale_at_bid, sets_par, settle, settle_each, settled, settles, stock_begins}
 use Rattle.rr_auction.specs.Rules.{due, price}
 use Rattle.rr_laws.proofs.Adding.{Adds, each_adds, none_adds, three_add, two_add}
-use Rattle.rr_laws.proofs.LeavesAuction.{is_bare, still_bare}
+use Rattle.rr_laws.proofs.LeavesAuction.{is_bare, keeps_step, still_bare}
 use Rattle.rr_laws.proofs.StockLeaves.{incomes_leave, lowest_leaves, mark_leaves}
 
--- whatever the book, the effect has no run as best, and moves no train
+-- whatever the book, the effect is of no turn, and moves no train
 abbrev AddsNone : Effect → Type 0
 AddsNone f = Adds is_bare f
 
@@ -88,8 +89,8 @@ purchase_adds roster s falls (Some p) =
     let amount = dollars (price roster falls p) in
     three_add is_bare (adds (E.Step (M.Act (A.BuyPrivate s)))) (sale s p amount) settle (λ book. refl) (sale_adds s p amount) settle_adds
 
-said_adds : (act : Act) → AddsNone (said act)
-said_adds act = two_add is_bare (adds (E.Step (M.Act act))) settle (λ book. refl) settle_adds
+said_adds : (act : Act) → keeps_step act ≡ true → AddsNone (said act)
+said_adds act keeps = two_add is_bare (adds (E.Step (M.Act act))) settle (λ book. ap (λ (b : Bool). b && true) keeps) settle_adds
 
 pass_adds : (roster : Terms) (s : Seat) (brings : Bool) → AddsNone (pass_of roster s brings)
 pass_adds roster s brings =
@@ -102,7 +103,7 @@ par_adds rows s c n =
 
 row_adds : (roster : Terms) (rows : List charts.Row) (act : Act) (n : ℕ) (holders : Holders) (a : Progress) → AddsNone (row roster rows act n holders a)
 row_adds roster rows (A.BuyPrivate s) n holders a = purchase_adds roster s a.falls (cheapest holders)
-row_adds roster rows (A.Bid s p amount) n holders a = said_adds (A.Bid s p amount)
+row_adds roster rows (A.Bid s p amount) n holders a = said_adds (A.Bid s p amount) refl
 row_adds roster rows (A.Pass s) n holders a = pass_adds roster s (brings_incomes n holders a)
 row_adds roster rows (A.Par s c price) n holders a = par_adds rows s c price
 row_adds roster rows _ n holders a = nothing

@@ -15,7 +15,7 @@ use Rattle.rr_code.specs.declared.command.Command.TheVariants.{Open}
 use Rattle.rr_rules.specs.Forced.Effects as forced
 use Rattle.rr_rules.specs.Forced.Rules.{is_forced}
 use Rattle.rr_kit.specs.declared.kit.Kit.{Kit}
-use Rattle.rr_operate.specs.Effects.{entries_of, runs_best}
+use Rattle.rr_operate.specs.Effects.{runs_best}
 use Rattle.rr_market.specs.declared.operations.turn.Stage.{Stage}
 use Rattle.rr_market.specs.declared.operations.turn.Stage.TheVariants as G
 use Rattle.rr_books.specs.declared.refusal.Refusal.{Refusal}
@@ -33,11 +33,11 @@ use Rattle.rr_laws.specs.Sound.{AreAccepted, ArePlayed}
 use Rattle.rr_laws.proofs.AuctionAdds.{auction_adds}
 use Rattle.rr_laws.proofs.BestCommands.{CertifiedAreOptimal, at_its_stage}
 use Rattle.rr_laws.proofs.ForcedLeaves.{need_goes}
-use Rattle.rr_laws.proofs.LeavesAuction.{bare_have_none, has_no_best, plain_have_none, still_plain}
+use Rattle.rr_laws.proofs.LeavesAuction.{bare_of_no_turn, calm_of_no_turn, has_no_best, none_best}
 use Rattle.rr_laws.proofs.Opened.{opening_meets}
-use Rattle.rr_laws.proofs.RoundLeaves.{stock_leaves}
+use Rattle.rr_laws.proofs.RoundLeaves.{stock_calms}
 use Rattle.rr_laws.proofs.SoundTables.{in_play}
-use Rattle.rr_laws.proofs.TurnLeaves.{is_best_run, turn_plain}
+use Rattle.rr_laws.proofs.TurnLeaves.{goes_none, is_best_run, turn_has_no_best}
 
 -- of these entries, behind those before them, each run as best was best
 abbrev WereBest : Kit → Book → Book → Type 0
@@ -75,8 +75,8 @@ more_were kit book es none h = both_were kit [] book es h (none_were kit es book
 
 -- a command of an operating round but a run as best
 operation_adds : (needs : Bool) (kit : Kit) (state : GameState) (act : Act) → is_best_run act ≡ false → list_all has_no_best (operating_entries needs kit state act) ≡ true
-operation_adds true kit state act other = plain_have_none (forced.entries_of kit.roster kit.chart state.book act) (need_goes kit.roster kit.chart state.book act).plain
-operation_adds false kit state act other = plain_have_none (entries_of kit state.revenue state.book act) (turn_plain kit state.revenue state.book act other)
+operation_adds true kit state act other = goes_none state.book (forced.entries_of kit.roster kit.chart state.book act) (need_goes kit.roster kit.chart state.book act)
+operation_adds false kit state act other = turn_has_no_best kit state.revenue state.book act other
 
 best_first : (kit : Kit) (book : Book) (c : Corp) (sheet certificate : List ℕ) → IsBestRun kit book c sheet → WereBest kit book (runs_best c sheet certificate book)
 unfolding runs_best
@@ -93,10 +93,10 @@ module _ (law : CertifiedAreOptimal) where
   by_stage : (s : Stage) (kit : Kit) (state : GameState) (act : Act) → IsVerdict (judgement_in s kit state act) None → WereBest kit [] state.book → WereBest kit [] (state_in s kit state act).book
   by_stage G.Auction kit state act lawful h =
       let es = auction.entries_of kit.roster kit.chart state.book act in
-      more_were kit state.book es (bare_have_none es (auction_adds kit.roster kit.chart state.book act)) h
+      more_were kit state.book es (none_best es (bare_of_no_turn es (auction_adds kit.roster kit.chart state.book act))) h
   by_stage G.Stock kit state act lawful h =
       let es = stock_entries kit state.book act in
-      more_were kit state.book es (plain_have_none es (still_plain es (stock_leaves kit state.book act))) h
+      more_were kit state.book es (none_best es (calm_of_no_turn es (stock_calms kit state.book act))) h
   by_stage G.Operating kit state act lawful h = by_operation kit state act lawful h
 
   by_act : (kit : Kit) (state : GameState) (act : Act) → IsVerdict (judgement kit state act) None → WereBest kit [] state.book → WereBest kit [] (state_after kit state act).book

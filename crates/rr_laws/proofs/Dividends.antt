@@ -1,5 +1,5 @@
 -- What trains earn is a number of tens, and each dividend shares what they earned.
-use Rattle.std.specs.Prelude.{◌≡◌, ℕ, ◌+◌, ◌*◌, ◌/◌, ◌%◌, ◌≤◌, List, [], ◌∷◌, ◌++◌, All, Option, None, Some, fold, length, map, get_or, slice_index, sum_by, refl}
+use Rattle.std.specs.Prelude.{◌≡◌, ℕ, ◌*◌, ◌/◌, ◌%◌, List, [], ◌∷◌, ◌++◌, All, Option, None, Some, fold, length, map, get_or, slice_index, sum_by, refl}
 use Rattle.std.proofs.Common.{◌∙◌, ap, arith, inl, inr, subst, sym}
 use Rattle.std.proofs.lemmas.Bool.{cases_lt}
 use Rattle.std.proofs.lemmas.List.{get_or_past}
@@ -57,6 +57,7 @@ use Rattle.rr_turns.specs.Judgement.{IsVerdict, Judgement}
 use Rattle.rr_turns.proofs.JudgementLemmas.{lawful-behind}
 use Rattle.rr_laws.specs.Dividends.{DividendsWereRight, HeldRevenuesWereWithheld, IsInTens, IsShared, RevenuesAreInTens}
 use Rattle.rr_laws.specs.Sound.{AreAccepted, ArePlayed}
+use Rattle.rr_laws.proofs.Revenues.{revenues_are_of_the_book}
 
 -- a number of tens
 abbrev EndsInNought : ℕ → Type 0
@@ -150,23 +151,23 @@ pub revenues_in_tens : RevenuesAreInTens
 revenues_in_tens texts kit commands spelled = revenue_in_play kit (right_kit_has texts kit spelled) commands
 
 -- An order that a table was played with wasn't refused in the state before it, and led to the one behind it.
-record WasPlayed (kit : Kit) (players : List (List ℕ)) (before after : GameState) (order : Order) : Type 0 where
-  lawful : IsVerdict (command_judgement kit players before (OfOrder order)) None
-  led : after ≡ played_on kit players before (OfOrder order)
+pub record WasPlayed (kit : Kit) (players : List (List ℕ)) (before after : GameState) (order : Order) : Type 0 where
+  pub lawful : IsVerdict (command_judgement kit players before (OfOrder order)) None
+  pub led : after ≡ played_on kit players before (OfOrder order)
 
 played_along : (kit : Kit) (players : List (List ℕ)) (state : GameState) (front rest : List Command) (order : Order) → AreAccepted kit players state (front ++ OfOrder order ∷ rest)
     → WasPlayed kit players (fold (played_on kit players) state front) (fold (played_on kit players) state (front ++ OfOrder order ∷ [])) order
 played_along kit players state [] rest order all = record { lawful = all.0; led = refl }
 played_along kit players state (command ∷ front) rest order all = played_along kit players (played_on kit players state command) front rest order all.1
 
-was_played : (kit : Kit) (front rest : List Command) (order : Order) → ArePlayed kit (front ++ OfOrder order ∷ rest)
+pub was_played : (kit : Kit) (front rest : List Command) (order : Order) → ArePlayed kit (front ++ OfOrder order ∷ rest)
     → WasPlayed kit (players_of front) (play kit front) (play kit (front ++ OfOrder order ∷ [])) order
 was_played kit [] rest order played = absurd played
 was_played kit (Open players ∷ front) rest order played = played_along kit players (opened_state players kit.roster) front rest order played.2
 was_played kit (command ∷ front) rest order played = absurd played
 
 -- nor is it by the rules in force
-by_rules : (kit : Kit) (players : List (List ℕ)) (state : GameState) (order : Order) (act : Act) → act_of_order players order ≡ Some act
+pub by_rules : (kit : Kit) (players : List (List ℕ)) (state : GameState) (order : Order) (act : Act) → act_of_order players order ≡ Some act
     → IsVerdict (command_judgement kit players state (OfOrder order)) None → IsVerdict (judgement_in (stage state.book) kit state act) None
 by_rules kit players state order act named lawful =
     let s = stage state.book in
@@ -217,11 +218,13 @@ dividend_was_right pays spares texts kit front rest c spelled played =
     let before = play kit front in
     let after = play kit (front ++ OfOrder (PayOut c) ∷ []) in
     let paid = paid_on kit (players_of front) before after c (was_played kit front rest (PayOut c) played) in
-    shared pays spares kit.chart before.book after.book c before.revenue (revenues_in_tens texts kit front spelled) paid
+    subst (λ (m : Money). IsShared before.book after.book c m) (revenues_are_of_the_book kit front)
+    (shared pays spares kit.chart before.book after.book c before.revenue (revenues_in_tens texts kit front spelled) paid)
 
 pub held_was_withheld : WithholdingPaysTheCorporation → HeldRevenuesWereWithheld
 held_was_withheld withholds_whole kit front rest c played =
     let before = play kit front in
     let after = play kit (front ++ OfOrder (Hold c) ∷ []) in
     let held = held_on kit (players_of front) before after c (was_played kit front rest (Hold c) played) in
-    subst (λ (b : Book). IsWithheld before.book b c before.revenue) (sym held) (withholds_whole kit.chart before.book c before.revenue)
+    subst (λ (m : Money). IsWithheld before.book after.book c m) (revenues_are_of_the_book kit front)
+    (subst (λ (b : Book). IsWithheld before.book b c before.revenue) (sym held) (withholds_whole kit.chart before.book c before.revenue))

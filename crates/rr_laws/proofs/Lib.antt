@@ -16,7 +16,13 @@ mod SoundTables
 mod AuctionAdds
 mod BestCommands
 mod BestEntries
+mod Revenues
+mod WorkedRevenueRows
+mod KeptTurn
+mod TurnSoFar
+mod TurnsPlayed
 mod Dividends
+mod RightDividends
 mod SheetVerdicts
 mod EachVerdict
 mod Sparing

@@ -17,9 +17,9 @@ use Rattle.rr_game.specs.Play.{opened_state, play, played_on, state_with}
 use Rattle.rr_laws.specs.SoldTrains.{PhasesAreGreatestSold}
 use Rattle.rr_laws.proofs.AuctionAdds.{auction_adds}
 use Rattle.rr_laws.proofs.ForcedLeaves.{need_goes}
-use Rattle.rr_laws.proofs.LeavesAuction.{bare_move_none, still_move_none}
+use Rattle.rr_laws.proofs.LeavesAuction.{bare_move_none, calm_move_none}
 use Rattle.rr_laws.proofs.Opened.{opening_meets}
-use Rattle.rr_laws.proofs.RoundLeaves.{stock_leaves}
+use Rattle.rr_laws.proofs.RoundLeaves.{stock_calms}
 use Rattle.rr_laws.proofs.TrainSales.{IsTold, greatest_sold, offers, told_offered, told_on}
 use Rattle.rr_laws.proofs.TurnLeaves.{turn_tells}
 
@@ -32,7 +32,7 @@ by_stage G.Auction kit state act h =
     let es = auction.entries_of kit.roster kit.chart state.book act in
     told_on state.book es (bare_move_none es (auction_adds kit.roster kit.chart state.book act)) h
 by_stage G.Stock kit state act h =
-    let es = stock_entries kit state.book act in told_on state.book es (still_move_none es (stock_leaves kit state.book act)) h
+    let es = stock_entries kit state.book act in told_on state.book es (calm_move_none es (stock_calms kit state.book act)) h
 by_stage G.Operating kit state act h = by_operation (is_forced act) kit state act h
 
 by_named : (kit : Kit) (state : GameState) (named : Option Act) → IsTold state.book → IsTold (state_with kit state named).book

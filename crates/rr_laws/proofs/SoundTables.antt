@@ -57,9 +57,9 @@ use Rattle.rr_laws.specs.Sound.{AreAccepted, ArePlayed, IsSoundTable, NamesCorpo
 use Rattle.rr_laws.proofs.ForcedLeaves.{need_goes}
 use Rattle.rr_laws.proofs.ForcedOrder.{order_by_bankruptcy, order_by_force}
 use Rattle.rr_laws.proofs.RaiseOrder.{order_by_raise}
-use Rattle.rr_laws.proofs.LeavesAuction.{leaves_auction, plain_leave, still_plain}
+use Rattle.rr_laws.proofs.LeavesAuction.{calm_leave, leaves_auction, plain_leave}
 use Rattle.rr_laws.proofs.Leaving.{auction_left}
-use Rattle.rr_laws.proofs.RoundLeaves.{stock_leaves}
+use Rattle.rr_laws.proofs.RoundLeaves.{stock_calms}
 use Rattle.rr_laws.proofs.StockOrder.{StockLaws, order_by_stock}
 use Rattle.rr_laws.proofs.TurnLeaves.{turn_leaves}
 
@@ -114,7 +114,7 @@ stands_over n book es revenue over leaves order earned =
 by_trade : StockLaws → (n : ℕ) → 0 < n → n ≤ 6 → (kit : Kit) (state : GameState) (act : Act) → auction_is_over state.book ≡ true → trading.verdict kit.chart state.book act ≡ None
     → Stands n state → Stands n (state_in G.Stock kit state act)
 by_trade laws n some few kit state act over lawful h =
-    stands_over n state.book _ state.revenue over (plain_leave (stock_entries kit state.book act) (still_plain (stock_entries kit state.book act) (stock_leaves kit state.book act))) (order_by_stock laws n some few kit state.book act lawful h.order) h.earned
+    stands_over n state.book _ state.revenue over (calm_leave (stock_entries kit state.book act) (stock_calms kit state.book act)) (order_by_stock laws n some few kit state.book act lawful h.order) h.earned
 
 -- a command of a corporation's turn
 by_turn : (n : ℕ) (kit : Kit) (state : GameState) (act : Act) → auction_is_over state.book ≡ true → force.is_forced act ≡ false → rows.IsVerdict kit state.book state.revenue act None
@@ -145,12 +145,12 @@ turn_from : (first : Option Refusal) (Next : Option Refusal → Type 0) → IsFi
 turn_from None Next h = h
 turn_from (Some fault) Next h = absurd cc
 
-turn_lawful : (kit : Kit) (state : GameState) (act : Act) → IsVerdict (operating_judgement false kit state act) None → rows.IsVerdict kit state.book state.revenue act None
+pub turn_lawful : (kit : Kit) (state : GameState) (act : Act) → IsVerdict (operating_judgement false kit state act) None → rows.IsVerdict kit state.book state.revenue act None
 turn_lawful kit state act lawful =
     let first = rows.first_verdict kit state.book state.revenue act in
     turn_from first (rows.IsRowVerdict kit state.book act) lawful
 
-row_from : (first : Option Refusal) (Next : Option Refusal → Type 0) → IsFirstOrBehind first Next None → Next None
+pub row_from : (first : Option Refusal) (Next : Option Refusal → Type 0) → IsFirstOrBehind first Next None → Next None
 row_from None Next h = h
 row_from (Some fault) Next h = absurd cc
 

@@ -1,4 +1,4 @@
--- What a command of a stock round adds of itself leaves an auction that is over as it is, and moves no train.
+-- What a command of a stock round adds of itself leaves an auction that is over as it is, is of no corporation's turn, and moves no train.
 use Rattle.std.specs.Prelude.{◌≡◌, ℕ, zero, suc, ◌*◌, Bool, true, false, cond, List, [], ◌∷◌, Option, None, Some, find, map, option_and_then, option_map, refl, if◌then◌else◌}
 use Rattle.std.specs.List.{list_all}
 use Rattle.rr_roster.specs.declared.company.Private.{Private}
@@ -35,11 +35,24 @@ use Rattle.rr_stock.specs.Situation.{Situation, situation_of}
 use Rattle.rr_stock.specs.Rules.{place_of_source, share_price}
 use Rattle.rr_stock.specs.Effects.{buys_share, ends_if, ends_stock_round, ends_turn, entries_of, gets_share, gives_up_private, is_sold_out, pays_bank, pays_seller, proceeds, rises, rises_among, rises_if_sold_out, row, sells, sets_par, settles_corporation, settles_in, swaps, takes_presidency}
 use Rattle.rr_laws.proofs.Adding.{Adds, none_adds, one_adds, then_adds, three_add, two_add}
-use Rattle.rr_laws.proofs.LeavesAuction.{is_still}
+use Rattle.rr_laws.proofs.LeavesAuction.{is_calm, is_still, still_calm}
 
--- whatever the book, the effect leaves the auction alone, has no run as best and moves no train
+-- whatever the book, the effect leaves the auction alone, is of no turn, begins no round, and moves no train
 abbrev pub Leaves : Effect → Type 0
 Leaves f = Adds is_still f
+
+-- the same, except that it may begin a round
+abbrev pub Calms : Effect → Type 0
+Calms f = Adds is_calm f
+
+pub leaves_calm : (f : Effect) → Leaves f → Calms f
+leaves_calm f h book = still_calm (f book) (h book)
+
+pub none_calms : Calms (in_turn [])
+none_calms = none_adds is_calm
+
+pub two_calm : (f g : Effect) → Calms f → Calms g → Calms (in_turn (f ∷ g ∷ []))
+two_calm f g h k = two_add is_calm f g h k
 
 pub none_leaves : Leaves (in_turn [])
 none_leaves = none_adds is_still
@@ -156,29 +169,33 @@ unfolding rises_among
 among_leave rows [] = none_leaves
 among_leave rows (c ∷ cs) = then_leaves (rises_if_sold_out rows c) (map (rises_if_sold_out rows) cs) (rise_leaves rows c) (among_leave rows cs)
 
-ending_leaves : (rows : List Row) (ends : Bool) → Leaves (ends_if rows ends)
+ending_calm : (rows : List Row) (ends : Bool) → Calms (ends_if rows ends)
 unfolding ends_stock_round rises
-ending_leaves rows false = none_leaves
-ending_leaves rows true =
-    two_leave (rises rows) (adds (E.Step M.Operating)) (λ book. among_leave rows (operating_order rows book) book) (λ book. refl)
+ending_calm rows false = none_calms
+ending_calm rows true =
+    two_calm (rises rows) (adds (E.Step M.Operating)) (λ book. still_calm (rises rows book) (among_leave rows (operating_order rows book) book)) (λ book. refl)
 
-row_leaves : (rows : List Row) (t : Situation) (act : Act) → Leaves (row rows t act)
+row_calm : (rows : List Row) (t : Situation) (act : Act) → Calms (row rows t act)
 unfolding sets_par buys_share sells swaps ends_turn
-row_leaves rows t (A.Par seat c n) =
-    three_leave (adds (E.Step (M.Act (A.Par seat c n)))) (takes_presidency rows seat c n) (float_if_due c (Some n) (has_floated t.progress c)) (λ book. refl) (presidency_taken_leaves rows seat c n)
-    (float_leaves c (Some n) (has_floated t.progress c))
-row_leaves rows t (A.BuyShare seat c source) =
-    three_leave (adds (E.Step (M.Act (A.BuyShare seat c source)))) (gets_share seat c source (share_price t c source)) (settles_in t c) (λ book. refl) (share_bought_leaves seat c source (share_price t c source))
-    (settled_leaves c (t.pars c) (has_floated t.progress c))
-row_leaves rows t (A.Sell seat c n) =
-    three_leave (adds (E.Step (M.Act (A.Sell seat c n)))) (sale_shares c seat n) (pays_seller rows seat c n (proceeds t c n)) (λ book. refl) (sale_leaves c seat n)
-    (seller_leaves rows seat c n (proceeds t c n))
-row_leaves rows t (A.Swap seat source) =
-    three_leave (adds (E.Step (M.Act (A.Swap seat source)))) (gives_up_private seat source) (settles_in t Corp.Nyc) (λ book. refl) (private_given_leaves seat source)
-    (settled_leaves Corp.Nyc (t.pars Corp.Nyc) (has_floated t.progress Corp.Nyc))
-row_leaves rows t (A.Done seat) =
-    two_leave (adds (E.Step (M.Act (A.Done seat)))) (ends_if rows (ends_round t.progress)) (λ book. refl) (ending_leaves rows (ends_round t.progress))
-row_leaves rows t _ = none_leaves
+row_calm rows t (A.Par seat c n) =
+    leaves_calm (row rows t (A.Par seat c n))
+    (three_leave (adds (E.Step (M.Act (A.Par seat c n)))) (takes_presidency rows seat c n) (float_if_due c (Some n) (has_floated t.progress c)) (λ book. refl) (presidency_taken_leaves rows seat c n)
+    (float_leaves c (Some n) (has_floated t.progress c)))
+row_calm rows t (A.BuyShare seat c source) =
+    leaves_calm (row rows t (A.BuyShare seat c source))
+    (three_leave (adds (E.Step (M.Act (A.BuyShare seat c source)))) (gets_share seat c source (share_price t c source)) (settles_in t c) (λ book. refl) (share_bought_leaves seat c source (share_price t c source))
+    (settled_leaves c (t.pars c) (has_floated t.progress c)))
+row_calm rows t (A.Sell seat c n) =
+    leaves_calm (row rows t (A.Sell seat c n))
+    (three_leave (adds (E.Step (M.Act (A.Sell seat c n)))) (sale_shares c seat n) (pays_seller rows seat c n (proceeds t c n)) (λ book. refl) (sale_leaves c seat n)
+    (seller_leaves rows seat c n (proceeds t c n)))
+row_calm rows t (A.Swap seat source) =
+    leaves_calm (row rows t (A.Swap seat source))
+    (three_leave (adds (E.Step (M.Act (A.Swap seat source)))) (gives_up_private seat source) (settles_in t Corp.Nyc) (λ book. refl) (private_given_leaves seat source)
+    (settled_leaves Corp.Nyc (t.pars Corp.Nyc) (has_floated t.progress Corp.Nyc)))
+row_calm rows t (A.Done seat) =
+    two_calm (adds (E.Step (M.Act (A.Done seat)))) (ends_if rows (ends_round t.progress)) (λ book. refl) (ending_calm rows (ends_round t.progress))
+row_calm rows t _ = none_calms
 
-pub act_leaves : (rows : List Row) (act : Act) → Leaves (λ book. entries_of rows book act)
-act_leaves rows act book = row_leaves rows (situation_of rows book) act book
+pub act_calm : (rows : List Row) (act : Act) → Calms (λ book. entries_of rows book act)
+act_calm rows act book = row_calm rows (situation_of rows book) act book

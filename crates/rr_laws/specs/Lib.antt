@@ -1,5 +1,7 @@
 pub mod Sound
 pub mod Best
+pub mod Revenue
+pub mod WorkedRevenue
 pub mod Dividends
 pub mod Verdicts
 pub mod SoldTrains

@@ -1,11 +1,11 @@
-//! Laws on whole games: every table is sound, each run paid as best was best, each dividend was shared by percentage,
-//! each command and each request has a verdict, the phase is the greatest kind of train ever sold, and a game's bytes
-//! are few. Its modules have laws on the auction and on commands of stock rounds (`soundness`), and on corporations'
-//! turns (`turns`).
+//! Laws on whole games: every table is sound, each run paid as best was best, no dividend is wrong, the book alone says
+//! what trains earned, each command and each request has a verdict, the phase is the greatest kind of train ever sold,
+//! and a game's bytes are few. Its modules have laws on the auction and on commands of stock rounds (`soundness`), and
+//! on corporations' turns (`turns`).
 //!
 //! Stands on `rr_game`, the rules and `rr_referee`; nothing of the program stands on it. Its promise: the laws `sound`,
-//! `best_runs_were_best`, `dividends_were_right`, `each_command_has_a_verdict`, `each_request_has_a_verdict`,
-//! `phases_are_greatest_sold` and `games_are_short`, at the root.
+//! `best_runs_were_best`, `never_pays_a_wrong_dividend`, `revenues_are_of_the_book`, `each_command_has_a_verdict`,
+//! `each_request_has_a_verdict`, `phases_are_greatest_sold` and `games_are_short`, at the root.
 #![tactic(auto)]
 
 pub mod soundness;
@@ -14,10 +14,12 @@ pub mod turns;
 ghost use Rattle.rr_game.specs.History.Laws.{RequestsHaveOneVerdict};
 ghost use Rattle.rr_game.specs.Laws.{CommandsHaveOneVerdict};
 ghost use Rattle.rr_laws.specs.Best.{BestCommandsWereBest, BestRunsWereBest};
-ghost use Rattle.rr_laws.specs.Dividends.{DividendsWereRight, HeldRevenuesWereWithheld, RevenuesAreInTens};
+ghost use Rattle.rr_laws.specs.Dividends.{DividendsWereRight, HeldRevenuesWereWithheld, NeverPaysAWrongDividend, RevenuesAreInTens};
+ghost use Rattle.rr_laws.specs.Revenue.{RevenueIsOfTheLastRun, RevenuesAreOfTheBook};
 ghost use Rattle.rr_laws.specs.Sizes.{GamesAreNoShorter, GamesAreShort};
 ghost use Rattle.rr_laws.specs.SoldTrains.{PhasesAreGreatestSold};
 ghost use Rattle.rr_laws.specs.Sound.{KitsNameCorporations, PlaysGoOn, TablesStaySound};
+ghost use Rattle.rr_laws.specs.WorkedRevenue.{WorkedRevenue};
 ghost use Rattle.rr_laws.specs.Verdicts.{EachCommandHasAVerdict, EachRequestHasAVerdict, NoRuleWantsMemory};
 
 /// If two to six players open a table with a right kit, every book that lawful commands make is sound. Bank, seats and
@@ -53,6 +55,32 @@ pub fn dividends_were_right()
     rr_operate::dividends::laws::nobody_is_paid_for_the_offering();
     rr_operate::dividends::laws::withholding_pays_the_corporation();
 }
+
+/// With a right kit a table never pays a wrong dividend: it shares by percentage what the one run of that turn earned, a
+/// legal run of the corporation's trains on the board as it lay at the run. If a dividend is withheld, the trains have
+/// run so or not at all, and the corporation gets all that they earned, or nothing. If the run was run as best, no legal
+/// run earned more there.
+pub fn never_pays_a_wrong_dividend()
+    ensures { NeverPaysAWrongDividend }
+{
+    rr_referee::laws::optimal();
+    rr_operate::dividends::laws::pays_each_holder();
+    rr_operate::dividends::laws::nobody_is_paid_for_the_offering();
+    rr_operate::dividends::laws::withholding_pays_the_corporation();
+}
+
+/// The book alone says what trains have earned in the turn under way: what the last run in it earned on the board and
+/// with the trains as they were before that run, or nothing if no trains have run since a turn ended.
+pub fn revenues_are_of_the_book()
+    ensures told { RevenuesAreOfTheBook }
+    ensures last_run { RevenueIsOfTheLastRun }
+{}
+
+/// The PRR runs between a city and an area off the board, and is paid what that was worth at the run, also if a first 5
+/// is sold before the dividend.
+pub fn worked_revenue()
+    ensures { WorkedRevenue }
+{}
 
 /// The roster of each right kit names each corporation.
 pub fn kits_name_corporations()

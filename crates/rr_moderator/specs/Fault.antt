@@ -162,7 +162,7 @@ of_store T.OutOfMemory = F.OutOfMemory
 abbrev pub of_rules : judge.Fault → Fault
 of_rules fault = of_store (stored.of_rules fault)
 
--- why the entries of a turn can't be read
+-- why the entries of a turn can't be read: that the turn isn't kept or, as nothing else is left, that memory ran out
 abbrev pub of_history : hist.Fault → Fault
 of_history H.TurnNotKept = F.TurnNotKept
 of_history fault = F.OutOfMemory

@@ -29,13 +29,13 @@ use Rattle.rr_moderator.specs.declared.fault.Fault.TheVariants as F
 use Rattle.rr_moderator.specs.Answer.{answer_of, asked_words, owned, price_words}
 use Rattle.rr_moderator.specs.Fault.{refusal_of}
 use Rattle.rr_books.specs.declared.refusal.Refusal.TheVariants as G
-use Rattle.rr_game.specs.Names.{owner_place, party_of, player_word, seat_of, trains_place}
+use Rattle.rr_game.specs.Names.{owner_place, party_of, seat_of, trains_place}
 use Rattle.rr_game.specs.Play.{play, players_of}
 use Rattle.rr_game.specs.Queries.{due, holding, quote, worth}
 use Rattle.rr_turns.specs.Turns.{ended_turns}
 use Rattle.rr_game.specs.History.Playing.{ends_turn}
 use Rattle.rr_game.specs.History.TurnEntries.{is_readable_turn, turn_entries}
-use Rattle.rr_entries.specs.Words.{book_words}
+use Rattle.rr_entries.specs.Words.{book_words, player_word}
 use Rattle.rr_store.specs.World.{TableState, World, names, table_named}
 
 -- the words of an answer, or why there are none
@@ -194,7 +194,7 @@ Writes answer result text = MatchResult result
     (λ _. (fault_of answer ≡ None) × (reply_of answer ≡ text ++ codes "\n"))
     (λ fault. fault_of answer ≡ Some fault)
 
--- a fault of an answer: its own, or that memory ran out if it has none
+-- the faults of a query that allocates: its own or, if it has an answer, `OutOfMemory`
 abbrev pub MayRefuseBy : Answer → Fault → Type 0
 MayRefuseBy answer fault = (fault_of answer ≡ Some fault) ⊎ ((fault_of answer ≡ None) × (fault ≡ F.OutOfMemory))
 
@@ -203,7 +203,7 @@ abbrev pub allocates : Query → Bool
 allocates (Q.Book table turn) = true
 allocates query = false
 
--- the faults that may answer a query, by whether its answer may need more memory
+-- the faults with which a query may be refused, by whether it allocates
 abbrev pub MayRefuse : Bool → Answer → Fault → Type 0
 MayRefuse true answer fault = MayRefuseBy answer fault
 MayRefuse false answer fault = fault_of answer ≡ Some fault

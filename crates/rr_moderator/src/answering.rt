@@ -13,11 +13,11 @@ ghost use Rattle.rr_reading.specs.declared.dir.directory.TheConstants.{MOST_TABL
 ghost use Rattle.rr_books.specs.Book.{Book, train_holder};
 ghost use Rattle.rr_desk.specs.Position.Position.{IsPositionOf};
 ghost use Rattle.rr_orders.specs.Texts.{added};
-ghost use Rattle.rr_game.specs.Names.{player_word, trains_place};
+ghost use Rattle.rr_game.specs.Names.{trains_place};
 ghost use Rattle.rr_moderator.specs.Queries.{MayRefuseBy, MeetsQuery, Writes, asked_answer, book_answer, cash_answer, due_answer, due_words, holds_answer, iou_answer, limit_answer, order_answer, phase_answer, price_answer, privates_answer, query_answer, reply_of, stamp_answer, step_word, trains_answer, trains_words, turns_answer, allocates, worth_answer};
 ghost use Rattle.rr_moderator.specs.Fault.{of_history};
 ghost use Rattle.rr_moderator.specs.Serving.{outcome_of};
-ghost use Rattle.rr_entries.specs.Words.{book_words, joined, spaced};
+ghost use Rattle.rr_entries.specs.Words.{book_words, joined, player_word, spaced};
 ghost use Rattle.rr_game.specs.History.TurnEntries.{book_verdict, turn_entries};
 
 use crate::fault::Fault;
@@ -26,7 +26,7 @@ use rr_books::{Cell, Cert, Money, Place, Seat};
 use rr_code::{Account, Command, Owner, Query, Request, TrainHolder};
 use rr_desk::Entries;
 use rr_disk::Disk;
-use rr_entries::{text_of, without_first_separator};
+use rr_entries::text_of;
 use rr_game::{Due, Game, history};
 use rr_kit::Kit;
 use rr_market::operations::TurnStep;
@@ -180,7 +180,7 @@ fn write_turn(
 {
     let text = text_of(alloc, game.players(), all)?;
     reply.text(b"=");
-    reply.push(without_first_separator(text.as_slice()))?;
+    reply.push(text.as_slice())?;
     write_nothing(reply);
     reply.push(b"\n")
 }
@@ -252,7 +252,7 @@ fn write_answer<D: Disk + Drop>(
         Query::Worth { table, player } => {
             write_worth(store.table(table)?, player, store.kit(), reply)
         }
-        // `write_book` writes this answer, which has no bound.
+        // `answer` sends `book` to `write_book`, so this case never comes.
         Query::Book { .. } => unreachable!(),
     }
 }

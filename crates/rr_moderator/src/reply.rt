@@ -8,10 +8,11 @@ use rr_words::LONGEST_LINE;
 use std::alloc::{AllocError, Global};
 use std::marker::Model;
 
-/// The most bytes of a reply: the longest tells the sheet of a run that a line has room for.
+/// The room that a reply begins with. Every reply except that to `book` fits: the longest one tells the sheet of a run
+/// that a line has room for.
 pub const REPLY_ROOM: usize = LONGEST_LINE + 192;
 
-/// The bytes of one reply. Its room is taken when it is made, so only `push` allocates memory.
+/// The bytes of one reply. It is made with `REPLY_ROOM` bytes of room; after that only `push` allocates memory.
 #[derive(Drop)]
 pub struct Reply {
     bytes: Vec<u8>,

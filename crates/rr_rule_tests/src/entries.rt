@@ -1,20 +1,21 @@
 //! The entries of openings and commands, and the words of entries.
 use crate::fixtures::roster;
 use crate::games::{AUCTION, entries, kit, played, players};
+use rr_books::{Corp, Entry, Kind, Marker, Money, Party, Place, Train, Words};
 use rr_desk::Entries;
-use rr_entries::{opening_entries, text_of, without_first_separator};
+use rr_entries::{opening_entries, text_of};
 use rr_words::Name;
 use std::alloc::Global;
 use std::process::Abort;
 
 // The calls below have no contracts, so that what a test does costs its proof little.
 
-/// The words of these books, each entry after a separator.
-fn separated(rt: &impl Abort, alloc: Global, players: &[Name], books: &[Entries]) -> Vec<u8> {
+/// The words of these books.
+fn text(rt: &impl Abort, alloc: Global, players: &[Name], books: &[Entries]) -> Vec<u8> {
     text_of(alloc, players, books).expect(rt, "memory")
 }
 
-/// Whether these are the words of the books, with a separator between each two entries.
+/// Whether these are the words of the books.
 pub(crate) fn have_words(
     rt: &impl Abort,
     alloc: Global,
@@ -22,8 +23,7 @@ pub(crate) fn have_words(
     books: &[Entries],
     words: &[u8],
 ) -> bool {
-    let text = separated(rt, alloc, players, books);
-    without_first_separator(text.as_slice()) == words
+    text(rt, alloc, players, books).as_slice() == words
 }
 
 /// How many of the usual commands are played, a command that is lawful then, and the words of the entries that it adds.
@@ -64,27 +64,85 @@ fn a_command_adds_its_entries(rt: HostRuntime) {
 const OPENING: usize = 106;
 
 const FIRST: &[u8] =
-    b" ; pay bank a 1200 ; pay bank b 1200 ; move SV offer ; move C&SL offer ; move D&H offer";
+    b" pay bank a 1200 ; pay bank b 1200 ; move SV offer ; move C&SL offer ; move D&H offer";
 
 const LAST: &[u8] = b" ; train D-5 offer ; train D-6 offer";
 
-/// The words of the opening of a and b, each entry after a separator.
+/// The words of the opening of a and b.
 fn opening(rt: &impl Abort, alloc: Global) -> Vec<u8> {
     let players = players(rt, b"open a b");
     let names = players.as_slice();
     assert!(rt; names.len() <= 6);
     let entries = opening_entries(alloc, names, &roster(rt, alloc)).expect(rt, "memory");
-    separated(rt, alloc, names, &[entries])
+    text(rt, alloc, names, &[entries])
 }
 
-/// Whether a text has the first and the last words of the opening, and as many separators as it has entries with words.
+/// Whether a text has the first and the last words of the opening, and a separator between each two
+/// entries with words.
 fn is_an_opening(text: &[u8]) -> bool {
-    let entries = text.iter().filter(|byte| **byte == b';').count();
-    (text.starts_with(FIRST), text.ends_with(LAST), entries) == (true, true, OPENING)
+    let separators = text.iter().filter(|byte| **byte == b';').count();
+    (text.starts_with(FIRST), text.ends_with(LAST), separators) == (true, true, OPENING - 1)
 }
 
 #[test]
 fn an_opening_has_its_entries(rt: HostRuntime) {
     let rt = &rt;
     assert!(rt; is_an_opening(opening(rt, rt.alloc()).as_slice()));
+}
+
+fn train_to(kind: Kind, number: u8, to: Place) -> Entry {
+    Entry::Train {
+        train: Train { kind, number },
+        to,
+    }
+}
+
+fn payment(from: Corp, to: Corp, dollars: i64) -> Entry {
+    Entry::Pay {
+        from: Party::Corp(from),
+        to: Party::Corp(to),
+        amount: Money(dollars),
+    }
+}
+
+/// A run of no train.
+fn empty_best(alloc: Global, corp: Corp) -> Entry {
+    Entry::Best {
+        corp,
+        sheet: Words::none(alloc),
+        certificate: Words::none(alloc),
+    }
+}
+
+/// Entries of which four have words.
+fn rare(rt: &impl Abort, alloc: Global) -> Entries {
+    let mut entries = Entries::new(alloc);
+    add(rt, Entry::Step(Marker::Operating), &mut entries);
+    add(rt, train_to(Kind::Four, 2, Place::Pool), &mut entries);
+    add(rt, payment(Corp::Erie, Corp::Prr, 0), &mut entries);
+    add(rt, train_to(Kind::Two, 6, Place::Gone), &mut entries);
+    add(rt, payment(Corp::Erie, Corp::Prr, 1), &mut entries);
+    add(rt, empty_best(alloc, Corp::Nynh), &mut entries);
+    add(rt, Entry::Step(Marker::Stock), &mut entries);
+    entries
+}
+
+fn add(rt: &impl Abort, entry: Entry, entries: &mut Entries) {
+    entries.push(entry).expect(rt, "memory");
+}
+
+/// Their words, and the same once more.
+const TWICE: &[u8] = b" train 4-2 pool ; train 2-6 gone ; pay ERIE PRR 1 ; best NYNH ; \
+    train 4-2 pool ; train 2-6 gone ; pay ERIE PRR 1 ; best NYNH";
+
+/// Whether the entries of three commands, of which the second one adds none, are written one after another.
+fn rare_are_written(rt: &impl Abort, alloc: Global) -> bool {
+    let books = [rare(rt, alloc), Entries::new(alloc), rare(rt, alloc)];
+    have_words(rt, alloc, &[], &books, TWICE)
+}
+
+#[test]
+fn entries_without_words_get_no_separator(rt: HostRuntime) {
+    let rt = &rt;
+    assert!(rt; rare_are_written(rt, rt.alloc()));
 }

@@ -169,6 +169,9 @@ fn laws_are_called() {
     rr_laws::sound();
     rr_laws::best_runs_were_best();
     rr_laws::dividends_were_right();
+    rr_laws::never_pays_a_wrong_dividend();
+    rr_laws::revenues_are_of_the_book();
+    rr_laws::worked_revenue();
     rr_laws::kits_name_corporations();
     rr_laws::plays_go_on();
     rr_laws::each_command_has_a_verdict();

@@ -7,6 +7,7 @@ use rr_store::laws::{
     calls_are_events, few_are_left, numbers_are_in_the_file, one_world, openings_play_few,
     sessions_are_safe,
 };
+use rr_world_laws::{OneType, OneTypeMore};
 use std::process::Abort;
 
 // The calls below have no contracts, so that what the test does costs its proof little.
@@ -33,7 +34,7 @@ fn call_laws_of_sessions<D: Disk, E: Disk>() {
     rr_world_laws::sessions_that_go_on_are_sound::<D, E>();
     rr_world_laws::services_go_on::<D, E>();
     rr_world_laws::services_keep_in_time::<D>();
-    rr_world_laws::histories_play_few::<D>();
+    rr_world_laws::histories_play_few::<OneTypeMore<OneType<D>, E>>();
 }
 
 fn call_laws_of_a_store<D: Disk + Drop>(store: &Store<D>) {

@@ -1,5 +1,5 @@
 -- Each opening of a file plays few commands, whatever stops there were in its history.
-use Rattle.std.proofs.Common.{◌≡◌, ℕ, ◌≤◌, All, false, List, [], ◌∷◌, ◌++◌, length, Some, inl, inr, Result, Ok, Err, IfOk, sym, ap, subst, arith}
+use Rattle.std.proofs.Common.{◌≡◌, ℕ, ◌≤◌, refl, All, false, List, [], ◌∷◌, ◌++◌, length, Some, inl, inr, Result, Ok, Err, IfOk, sym, ap, subst, arith}
 use Rattle.std.specs.Cmp.Lexicographic.{nat_list_eq_equiv}
 use Rattle.std.specs.Global.{Box}
 use Rattle.std.proofs.lemmas.List.Elements.{All-weaker}
@@ -33,15 +33,17 @@ use Rattle.rr_store.specs.declared.store.Store.{Store}
 use Rattle.rr_store.specs.Events.{Opens, Passes, disk_behind}
 use Rattle.rr_store.specs.Files.{StandsFor}
 use Rattle.rr_store.specs.Holding.{Carries, GamesHaveSnapshots, disk_of, file_of, held_of, replayed_of}
-use Rattle.rr_store.specs.Named.{LendsNamed, NamedRootsPlayFew, NamesRoots, NamesSnapshots, NewFilesNameSnapshots, OpeningsPlayFew, PlaysFew, ShortSnapshotsAreLent, SnapshotsAreShort}
+use Rattle.rr_store.specs.Named.{LendsNamed, NamesRoots, NamesSnapshots, NewFilesNameSnapshots, OpeningsPlayFew, PlaysFew, SnapshotsAreShort}
 use Rattle.rr_store.specs.Replayed.{ReplaysFile}
 use Rattle.rr_store.specs.Opening.{SyncsAtMost}
 use Rattle.rr_store.specs.Ticking.{Steps}
 use Rattle.rr_store.proofs.Events.{each_moment, same_moments}
+use Rattle.rr_store.proofs.NamedRoots.{named_roots_play_few}
 use Rattle.rr_store.proofs.Openings.{syncs_at_most}
 use Rattle.rr_store.proofs.Standing.{carried_now}
 use Rattle.rr_store.proofs.Worlds.{kept_stand}
-use Rattle.rr_world_laws.specs.FewPlays.{And_then, Behind, By_checkpoint, By_commit, By_tick, Call, HistoriesBegin, HistoriesEnd, HistoriesGoOn, HistoriesStay, History, KeepsNamed, KitsHaveShortSnapshots, New, No_call, OpensNamed, Returned, Within}
+use Rattle.rr_world_laws.specs.FewPlays.{And_then, Behind, By_checkpoint, By_commit, By_tick, Call, HistoriesBegin, HistoriesEnd, HistoriesGoOn, HistoriesNameSnapshots, HistoriesPlayFew, HistoriesStay, History, KeepsNamed, KitsHaveShortSnapshots, New, No_call, OpensNamed, Returned, Within, content_of}
+use Rattle.rr_world_laws.specs.Programs.{ContentsMayStay, Programs}
 
 -- ---- games are short
 
@@ -80,16 +82,7 @@ module _ {D : Type 0} (Honest : D → Type 0) (state : D → DiskState) (disk : 
   opens_named (Ok store) snapshots names replayed = record { snapshots = snapshots; names = names; replayed = replayed }
   opens_named (Err refused) snapshots names replayed = tt
 
--- ---- histories
-
-pub histories_begin : {D : Type 0} (Honest Works : D → Type 0) (state : D → DiskState) (past : D → List DiskState) (faults writes syncs : D → ℕ)
-    → HistoriesBegin Honest Works state past faults writes syncs
-histories_begin Honest Works state past faults writes syncs texts old new formats image is = New image formats.0.0 formats.0.1 (formats.1 image is)
-
-pub histories_go_on : {D : Type 0} (Honest Works : D → Type 0) (state : D → DiskState) (past : D → List DiskState) (faults writes syncs : D → ℕ)
-    → ((disk : D) → Honest disk → IsImage (state disk) (state disk).content) → HistoriesGoOn Honest Works state past faults writes syncs
-histories_go_on Honest Works state past faults writes syncs stays texts disk opened last history opens named calls honest =
-    Behind disk opened last (state (disk_of last)).content history opens named calls honest (stays (disk_of last) honest)
+-- ---- calls
 
 -- a disk that is honest behind a call was so before it
 honest_of : {D : Type 0} (Honest Works : D → Type 0) (state : D → DiskState) (past : D → List DiskState) (faults writes syncs : D → ℕ) (old new : Store D)
@@ -101,18 +94,6 @@ honest_of Honest Works state past faults writes syncs old new (By_checkpoint bef
 -- where no moment passed the state is as it was
 none_passed : (past_old past_new : List DiskState) (old new : DiskState) → new ∷ past_new ≡ old ∷ past_old → new ≡ old
 none_passed past_old past_new old new passes = cc
-
-pub histories_end : {D : Type 0} (Honest Works : D → Type 0) (state : D → DiskState) (past : D → List DiskState) (faults writes syncs : D → ℕ)
-    → ((disk : D) → Honest disk → IsImage (state disk) (state disk).content) → HistoriesEnd Honest Works state past faults writes syncs
-histories_end Honest Works state past faults writes syncs stays texts disk opened last new [] history opens named calls call honest passes =
-    let same = none_passed (past (disk_of last)) (past (disk_of new)) (state (disk_of last)) (state (disk_of new)) passes in
-    let before = honest_of Honest Works state past faults writes syncs last new call honest in
-    subst (λ (s : DiskState). History Honest Works state past faults writes syncs texts s.content) (sym same)
-    (Behind disk opened last (state (disk_of last)).content history opens named calls before (stays (disk_of last) before))
-histories_end Honest Works state past faults writes syncs stays texts disk opened last new (now ∷ moments) history opens named calls call honest passes =
-    let same : state (disk_of new) ≡ now = cc passes in
-    Within disk opened last new (now ∷ moments) (state (disk_of new)).content history opens named calls call honest passes
-    (inl (subst (λ (s : DiskState). IsImage s (state (disk_of new)).content) same (stays (disk_of new) honest)))
 
 -- what is so of each moment of a call is so of what a stop leaves at one of them
 at_moment : (moments : List DiskState) (P : List ℕ → Type 0) (image : List ℕ) → EachImageOf moments P → IsImageOfOne moments image → P image
@@ -129,28 +110,10 @@ synced : (old : DiskState) (moments : List DiskState) (P : List ℕ → Type 0) 
 synced old moments P here (inl none) = subst (λ (ms : List DiskState). EachImageOf ms P) (sym none) tt
 synced old moments P here (inr once) = subst (λ (ms : List DiskState). EachImageOf ms P) (sym once) (each_synced old P here, tt)
 
-pub histories_stay : {D : Type 0} (Honest Works : D → Type 0) (state : D → DiskState) (past : D → List DiskState) (faults writes syncs : D → ℕ)
-    → HistoriesStay Honest Works state past faults writes syncs
-histories_stay Honest Works state past faults writes syncs texts disk (Ok store) moments image history opens honest passes of =
-    let told = (opens.opened honest).1 in
-    let same = same_moments told.moments moments (past disk) (past (disk_of store)) (state disk) (state (disk_of store)) told.passed passes in
-    let Has : List ℕ → Type 0 = History Honest Works state past faults writes syncs texts in
-    at_moment moments Has image (subst (λ (ms : List DiskState). EachImageOf ms Has) same (synced (state disk) told.moments Has history (inr told.allowed.0))) of
-histories_stay Honest Works state past faults writes syncs texts disk (Err refused) moments image history opens honest passes of =
-    let told = opens.left honest in
-    let same = same_moments told.moments moments (past disk) (past refused.disk) (state disk) (state refused.disk) told.passed passes in
-    let Has : List ℕ → Type 0 = History Honest Works state past faults writes syncs texts in
-    at_moment moments Has image
-    (subst (λ (ms : List DiskState). EachImageOf ms Has) same (synced (state disk) told.moments Has history (syncs_at_most refused.fault (state disk) told.moments told.allowed.0))) of
-
 module _ {D : Type 0} (Honest Works : D → Type 0) (state : D → DiskState) (past : D → List DiskState) (faults writes syncs : D → ℕ)
-    (short : KitsHaveShortSnapshots) (new_files : NewFilesNameSnapshots) (openings : OpeningsPlayFew) (images : NamedRootsPlayFew state)
-    (lends : ShortSnapshotsAreLent state) (texts : KitTexts) where
+    (short : KitsHaveShortSnapshots) (texts : KitTexts) where
   abbrev Calls : Store D → Store D → Type 0
   Calls = Returned Honest Works state past faults writes syncs
-
-  abbrev Has : List ℕ → Type 0
-  Has = History Honest Works state past faults writes syncs texts
 
   -- what a store has between two calls
   record IsNamed (store : Store D) : Type 0 where
@@ -169,7 +132,7 @@ module _ {D : Type 0} (Honest Works : D → Type 0) (state : D → DiskState) (p
   honest_before old new (And_then before between last call whole rest) honest = honest_by before between call (honest_before between last rest honest)
 
   lent : (store : Store D) → IsNamed store → LendsNamed store
-  lent store is = lends texts store (short (held_of store).kit) is.carries is.snapshots
+  lent store is = record { snapshots = is.snapshots; short = short (held_of store).kit store.tables refl is.carries.played }
 
   step_keeps : {T : Type 0} (old new : Store D) (result : Result T Fault) → Steps Honest Works state past faults old result new → Honest (disk_of new)
       → (held_of new).broken ≡ false → IsNamed old → IsNamed new
@@ -233,7 +196,7 @@ module _ {D : Type 0} (Honest Works : D → Type 0) (state : D → DiskState) (p
         tables = (held_of store).tables;
         tables_of_kit = is.carries.tables_of_kit;
         keeps = carried_now (file_of store) (state (disk_of store)) texts (held_of store).tables is.carries.file image of;
-        names = (images texts store is.roots image of).0;
+        names = (named_roots_play_few state texts store is.roots image of).0;
       }
 
   -- and what it leaves within a call that has a request, or a step
@@ -285,29 +248,88 @@ module _ {D : Type 0} (Honest Works : D → Type 0) (state : D → DiskState) (p
   left_within old new (By_tick before behind result steps) honest is moments passes image of = left_by_step before behind result moments steps honest is passes image of
   left_within old new (By_checkpoint before behind result steps) honest is moments passes image of = left_by_step before behind result moments steps honest is passes image of
 
-  pub histories_name : (file : List ℕ) → Has file → KeepsNamed texts file
-  histories_name file (New one kit right new) =
-      record {
-        kit = kit;
-        right = right;
-        tables = [];
-        tables_of_kit = record { spelled = tt; played = tt };
-        keeps = new_keeps table_files NEWEST_VERSION (in_words texts []) one new;
-        names = new_files one texts kit new;
-      }
-  histories_name file (Behind disk first last image history opens named calls honest of) =
-      let before = histories_name (state disk).content history in
-      let is = opened disk first before opens named (honest_before first last calls honest) in
-      left last (calls_keep first last calls honest is) image of
-  histories_name file (Within disk first last new moments image history opens named calls call honest passes of) =
-      let before = histories_name (state disk).content history in
-      let here = honest_by last new call honest in
-      let is = calls_keep first last calls here (opened disk first before opens named (honest_before first last calls here)) in
-      left_within last new call honest is moments passes file of
+  -- what a stop leaves of a program that opened such a file
+  module _ (disk : D) (first last : Store D) (file : KeepsNamed texts (state disk).content) (opens : Opens Honest state past disk (Ok first))
+      (named : OpensNamed Honest state disk first) (calls : Calls first last) where
+    pub left_between : Honest (disk_of last) → (image : List ℕ) → IsImage (state (disk_of last)) image → KeepsNamed texts image
+    left_between honest image of = left last (calls_keep first last calls honest (opened disk first file opens named (honest_before first last calls honest))) image of
 
-  pub histories_play_few : (disk : D) (store : Store D) → Has (state disk).content → Opens Honest state past disk (Ok store)
+    pub left_in : (new : Store D) → Makes last new → Honest (disk_of new) → (moments : List DiskState) → Passes state past (disk_of last) (disk_of new) moments
+        → (image : List ℕ) → IsImageOfOne moments image → KeepsNamed texts image
+    left_in new call honest moments passes image of =
+        let here = honest_by last new call honest in
+        left_within last new call honest (calls_keep first last calls here (opened disk first file opens named (honest_before first last calls here))) moments passes image of
+
+  pub plays_few : OpeningsPlayFew → (disk : D) (store : Store D) → KeepsNamed texts (state disk).content → Opens Honest state past disk (Ok store)
       → OpensNamed Honest state disk store → Honest (disk_of store) → PlaysFew (state disk).content (held_of store).kit (replayed_of store)
-  histories_play_few disk store history opens named honest =
-      let file = histories_name (state disk).content history in
+  plays_few openings disk store file opens named honest =
       openings (state disk).content (held_of store).kit (replayed_of store) (names disk store file opens named honest)
       (named.replayed honest texts file.tables (stands disk store file opens named honest))
+
+-- ---- histories
+
+module _ (programs : Programs) where
+  abbrev Has : KitTexts → List ℕ → Type 0
+  Has texts = History programs texts
+
+  pub histories_begin : HistoriesBegin programs
+  histories_begin texts old new formats image is = New image formats.0.0 formats.0.1 (formats.1 image is)
+
+  pub histories_go_on : ContentsMayStay programs → HistoriesGoOn programs
+  histories_go_on may_stay texts p disk last history ran honest =
+      Behind p disk last (content_of programs p (disk_of last)) history ran honest (may_stay p (disk_of last) honest)
+
+  pub histories_end : ContentsMayStay programs → HistoriesEnd programs
+  histories_end may_stay texts p disk last new [] history ran calls =
+      let ghosts = programs.ghosts p in
+      let same = none_passed (ghosts.past (disk_of last)) (ghosts.past (disk_of new)) (ghosts.state (disk_of last)) (ghosts.state (disk_of new)) calls.passes in
+      let before = honest_of ghosts.Honest ghosts.Works ghosts.state ghosts.past ghosts.fault_count ghosts.write_count ghosts.sync_count last new calls.call calls.honest in
+      subst (λ (s : DiskState). Has texts s.content) (sym same) (histories_go_on may_stay texts p disk last history ran before)
+  histories_end may_stay texts p disk last new (now ∷ moments) history ran calls =
+      let ghosts = programs.ghosts p in
+      let passes : ghosts.state (disk_of new) ∷ ghosts.past (disk_of new) ≡ (now ∷ moments) ++ ghosts.state (disk_of last) ∷ ghosts.past (disk_of last) = calls.passes in
+      let same : ghosts.state (disk_of new) ≡ now = cc passes in
+      Within p disk last new (now ∷ moments) (content_of programs p (disk_of new)) history ran calls
+      (inl (subst (λ (s : DiskState). IsImage s (content_of programs p (disk_of new))) same (may_stay p (disk_of new) calls.honest)))
+
+  pub histories_stay : HistoriesStay programs
+  histories_stay texts p disk (Ok store) moments image history opens honest passes of =
+      let ghosts = programs.ghosts p in
+      let told = (opens.opened honest).1 in
+      let same = same_moments told.moments moments (ghosts.past disk) (ghosts.past (disk_of store)) (ghosts.state disk) (ghosts.state (disk_of store)) told.passed passes in
+      at_moment moments (Has texts) image
+      (subst (λ (ms : List DiskState). EachImageOf ms (Has texts)) same (synced (ghosts.state disk) told.moments (Has texts) history (inr told.allowed.0))) of
+  histories_stay texts p disk (Err refused) moments image history opens honest passes of =
+      let ghosts = programs.ghosts p in
+      let told = opens.left honest in
+      let same = same_moments told.moments moments (ghosts.past disk) (ghosts.past refused.disk) (ghosts.state disk) (ghosts.state refused.disk) told.passed passes in
+      at_moment moments (Has texts) image
+      (subst (λ (ms : List DiskState). EachImageOf ms (Has texts)) same
+      (synced (ghosts.state disk) told.moments (Has texts) history (syncs_at_most refused.fault (ghosts.state disk) told.moments told.allowed.0))) of
+
+  module _ (short : KitsHaveShortSnapshots) (new_files : NewFilesNameSnapshots) (openings : OpeningsPlayFew) where
+    pub histories_name : HistoriesNameSnapshots programs
+    histories_name texts file (New one kit right new) =
+        record {
+          kit = kit;
+          right = right;
+          tables = [];
+          tables_of_kit = record { spelled = tt; played = tt };
+          keeps = new_keeps table_files NEWEST_VERSION (in_words texts []) one new;
+          names = new_files one texts kit new;
+        }
+    histories_name texts file (Behind p disk last image history ran honest of) =
+        let ghosts = programs.ghosts p in
+        left_between ghosts.Honest ghosts.Works ghosts.state ghosts.past ghosts.fault_count ghosts.write_count ghosts.sync_count short texts
+        disk ran.store last (histories_name texts (content_of programs p disk) history) ran.opens ran.named ran.calls honest image of
+    histories_name texts file (Within p disk last new moments image history ran calls of) =
+        let ghosts = programs.ghosts p in
+        left_in ghosts.Honest ghosts.Works ghosts.state ghosts.past ghosts.fault_count ghosts.write_count ghosts.sync_count short texts
+        disk ran.store last (histories_name texts (content_of programs p disk) history) ran.opens ran.named ran.calls
+        new calls.call calls.honest moments calls.passes image of
+
+    pub histories_play_few : HistoriesPlayFew programs
+    histories_play_few texts p disk store history opens named honest =
+        let ghosts = programs.ghosts p in
+        plays_few ghosts.Honest ghosts.Works ghosts.state ghosts.past ghosts.fault_count ghosts.write_count ghosts.sync_count short texts
+        openings disk store (histories_name texts (content_of programs p disk) history) opens named honest

@@ -17,6 +17,7 @@ use Rattle.rr_books.specs.Book.{Book, holder}
 use Rattle.rr_shares.specs.Presidents.{NobodyHasMore}
 use Rattle.rr_laws.specs.Soundness.Presidencies.{HasGreatestPresidents, IsLed, IsOffered}
 use Rattle.rr_kit.specs.declared.kit.Kit.{Kit}
+use Rattle.rr_kit.specs.Kits.{KitTexts, SpellsKit}
 use Rattle.rr_rules.specs.State.{GameState}
 use Rattle.rr_game.specs.Play.{opened_state, play, played_on, players_of}
 use Rattle.rr_game.specs.Verdict.{command_judgement}
@@ -34,13 +35,14 @@ use Rattle.rr_code.specs.declared.command.Command.TheVariants.{Open}
 use Rattle.rr_code.specs.Request.{IsRequest}
 use Rattle.rr_code.specs.Players.{ArePlayers}
 use Rattle.rr_laws.specs.Best.{BestRunsWereBest}
+use Rattle.rr_laws.specs.Dividends.{NeverPaysAWrongDividend}
 use Rattle.rr_laws.specs.Sound.{AreAccepted, ArePlayed, IsSoundTable, KitsNameCorporations, NamesCorporations, PlaysGoOn, TablesStaySound}
 use Rattle.rr_tables.specs.Records.Fault.{of_table}
 use Rattle.rr_tables.specs.Records.Headline.{WhateverComes}
 use Rattle.rr_tables.specs.Records.Played.{ArePlayedTables}
 use Rattle.rr_tables.specs.Records.Words.{AreCommands, KeepCommands}
 use Rattle.rr_tables.specs.Records.World.{Follows, IsLawfulIn, TableRequest, TableState, World, present_stamp, state_after, step_judgement, table_named, world_after, world_judgement}
-use Rattle.rr_world_laws.specs.Worlds.{AreInOrder, FilesAreSound, HaveBestRuns, IsSoundWorld, WhateverComesIsSound, WorldsAreSound}
+use Rattle.rr_world_laws.specs.Worlds.{AreInOrder, FilesAreSound, HaveBestRuns, HaveRightDividends, IsSoundWorld, WhateverComesIsSound, WorldsAreSound}
 
 abbrev HasPlayed : Kit → World → Type 0
 HasPlayed kit tables = AllByRecursion (λ t. ArePlayed kit t.1.commands) tables
@@ -181,7 +183,7 @@ module _ (n : ℕ) (book : Book) where
 
 -- worlds
 
-module _ (sound : TablesStaySound) (best : BestRunsWereBest) where
+module _ (sound : TablesStaySound) (best : BestRunsWereBest) (never_wrong : NeverPaysAWrongDividend) where
   in_order : (kit : Kit) (tables : World) → NamesCorporations kit → HasPlayed kit tables → AreInOrder kit tables
   in_order kit [] order all = tt
   in_order kit (t ∷ ts) order all = (sound kit t.1.commands order all.0, in_order kit ts order all.1)
@@ -190,11 +192,17 @@ module _ (sound : TablesStaySound) (best : BestRunsWereBest) where
   best_runs kit [] all = tt
   best_runs kit (t ∷ ts) all = (best kit t.1.commands all.0, best_runs kit ts all.1)
 
-  sound_all : (kit : Kit) (tables : World) → NamesCorporations kit → HasPlayed kit tables → IsSoundWorld kit tables
-  sound_all kit tables order all = (in_order kit tables order all, best_runs kit tables all)
+  right_dividends : (texts : KitTexts) (kit : Kit) (tables : World) → SpellsKit texts kit → HasPlayed kit tables → HaveRightDividends kit tables
+  right_dividends texts kit [] right all = tt
+  right_dividends texts kit (t ∷ ts) right all = (never_wrong texts kit t.1.commands right all.0, right_dividends texts kit ts right all.1)
+
+  sound_all : (texts : KitTexts) (kit : Kit) (tables : World) → SpellsKit texts kit → NamesCorporations kit → HasPlayed kit tables → IsSoundWorld kit tables
+  sound_all texts kit tables right order all = (in_order kit tables order all, best_runs kit tables all, right_dividends texts kit tables right all)
 
   pub worlds_are_sound : PlaysGoOn → WorldsAreSound
-  worlds_are_sound goes_on kit requests tables order follows = sound_all kit tables order (played_follow goes_on kit [] tables requests follows tt)
+  worlds_are_sound goes_on kit requests tables order follows =
+      let all = played_follow goes_on kit [] tables requests follows tt in
+      (in_order kit tables order all, best_runs kit tables all, λ texts right. right_dividends texts kit tables right all)
 
   -- whatever comes to a new file
   pub whatever_comes : PlaysGoOn → KitsNameCorporations → WhateverComes → WhateverComesIsSound
@@ -204,8 +212,8 @@ module _ (sound : TablesStaySound) (best : BestRunsWereBest) where
       let played = played_follow goes_on kit [] safe.tables system.acknowledged safe.followed tt in
       record {
         safe = safe;
-        sound = sound_all kit safe.tables order played;
-        sound_with = λ asked pending lawful. sound_all kit (world_after kit safe.tables asked.name asked.request) order (played_step goes_on kit safe.tables asked lawful played);
+        sound = sound_all texts kit safe.tables right order played;
+        sound_with = λ asked pending lawful. sound_all texts kit (world_after kit safe.tables asked.name asked.request) right order (played_step goes_on kit safe.tables asked lawful played);
       }
 
   -- files
@@ -224,5 +232,5 @@ module _ (sound : TablesStaySound) (best : BestRunsWereBest) where
         kit,
         stands.right,
         kept_in_order kit tables (kits texts kit stands.right) of_kit.spelled of_kit.played,
-        ∥∥₁_map (has_played kit tables of_kit.spelled of_kit.played) (λ all. best_runs kit tables all),
+        ∥∥₁_map (has_played kit tables of_kit.spelled of_kit.played) (λ all. (best_runs kit tables all, right_dividends texts kit tables stands.right all)),
       )

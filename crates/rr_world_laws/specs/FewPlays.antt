@@ -21,6 +21,7 @@ use Rattle.rr_store.specs.Holding.{GamesHaveSnapshots, disk_of, held_of, replaye
 use Rattle.rr_store.specs.Named.{NamesRoots, NamesSnapshots, PlaysFew, SnapshotsAreShort}
 use Rattle.rr_store.specs.Replayed.{ReplaysFile}
 use Rattle.rr_store.specs.Ticking.{Steps}
+use Rattle.rr_world_laws.specs.Programs.{Programs}
 
 -- whatever the kit, no snapshot of tables that were played by its rules has more bytes than a file takes
 abbrev pub KitsHaveShortSnapshots : Type 0
@@ -62,43 +63,62 @@ module _ {D : Type 0} (Honest Works : D → Type 0) (state : D → DiskState) (p
     And_then : (old between new : Store D) → Call old between → (held_of between).broken ≡ false → Returned between new
         → Returned old new
 
-  -- A file with such a history: a new one of these texts; or one that a stop may leave of a program which opened such a file,
-  -- behind calls that all returned, or at a moment of the call behind these, whether that returns or its device fails.
+-- Each program that opens the file has a disk of its own, whose type may be its own, too.
+module _ (programs : Programs) where
+  -- a program opened what its disk held, and made calls on its store, each of which returned
+  pub record Ran (p : programs.Program) (disk : programs.Disk p) (last : Store (programs.Disk p)) : Type 0 where
+    pub store : Store (programs.Disk p)
+    pub opens : Opens (programs.ghosts p).Honest (programs.ghosts p).state (programs.ghosts p).past disk (Ok store)
+    pub named : OpensNamed (programs.ghosts p).Honest (programs.ghosts p).state disk store
+    pub calls : Returned (programs.ghosts p).Honest (programs.ghosts p).Works (programs.ghosts p).state (programs.ghosts p).past
+        (programs.ghosts p).fault_count (programs.ghosts p).write_count (programs.ghosts p).sync_count store last
+
+  -- and then it made one more call, at these moments, which returned or whose device failed
+  pub record Calls (p : programs.Program) (last new : Store (programs.Disk p)) (moments : List DiskState) : Type 0 where
+    pub call : Call (programs.ghosts p).Honest (programs.ghosts p).Works (programs.ghosts p).state (programs.ghosts p).past
+        (programs.ghosts p).fault_count (programs.ghosts p).write_count (programs.ghosts p).sync_count last new
+    pub honest : (programs.ghosts p).Honest (disk_of new)
+    pub passes : Passes (programs.ghosts p).state (programs.ghosts p).past (disk_of last) (disk_of new) moments
+
+  -- what a read of the program's disk gives
+  abbrev pub content_of : (p : programs.Program) → programs.Disk p → List ℕ
+  content_of p disk = ((programs.ghosts p).state disk).content
+
+  -- A file with a history: a new one of these texts, or one that a crash may leave of a program which opened a file with a
+  -- history, after calls that all returned, or at a moment of the call after these.
   pub data History (texts : KitTexts) : List ℕ → Type 0 where
     New : (file : List ℕ) (kit : Kit) → SpellsKit texts kit → IsNewStore texts file → History texts file
-    Behind : (disk : D) (opened last : Store D) (image : List ℕ) → History texts (state disk).content
-        → Opens Honest state past disk (Ok opened) → OpensNamed Honest state disk opened → Returned opened last
-        → Honest (disk_of last) → IsImage (state (disk_of last)) image → History texts image
-    Within : (disk : D) (opened last new : Store D) (moments : List DiskState) (image : List ℕ) → History texts (state disk).content
-        → Opens Honest state past disk (Ok opened) → OpensNamed Honest state disk opened → Returned opened last
-        → Call last new → Honest (disk_of new) → Passes state past (disk_of last) (disk_of new) moments
+    Behind : (p : programs.Program) (disk : programs.Disk p) (last : Store (programs.Disk p)) (image : List ℕ)
+        → History texts (content_of p disk) → Ran p disk last
+        → (programs.ghosts p).Honest (disk_of last) → IsImage ((programs.ghosts p).state (disk_of last)) image → History texts image
+    Within : (p : programs.Program) (disk : programs.Disk p) (last new : Store (programs.Disk p)) (moments : List DiskState) (image : List ℕ)
+        → History texts (content_of p disk) → Ran p disk last → Calls p last new moments
         → IsImageOfOne moments image → History texts image
 
-  -- whatever a stop leaves behind a formatting is such a file
+  -- whatever a crash leaves after a formatting is such a file
   abbrev pub HistoriesBegin : Type 0
   HistoriesBegin = (texts : KitTexts) (old new : DiskState) → FormatAllows texts old new (Ok tt) → EachImage new (History texts)
 
   -- and so is what the disk of such a program gives, if that just ends
   abbrev pub HistoriesGoOn : Type 0
   HistoriesGoOn =
-      (texts : KitTexts) (disk : D) (opened last : Store D) → History texts (state disk).content
-      → Opens Honest state past disk (Ok opened) → OpensNamed Honest state disk opened → Returned opened last
-      → Honest (disk_of last) → History texts (state (disk_of last)).content
+      (texts : KitTexts) (p : programs.Program) (disk : programs.Disk p) (last : Store (programs.Disk p)) → History texts (content_of p disk) → Ran p disk last
+      → (programs.ghosts p).Honest (disk_of last) → History texts (content_of p (disk_of last))
 
-  -- also behind a call that failed with its device
+  -- also after a call that failed with its device
   abbrev pub HistoriesEnd : Type 0
   HistoriesEnd =
-      (texts : KitTexts) (disk : D) (opened last new : Store D) (moments : List DiskState) → History texts (state disk).content
-      → Opens Honest state past disk (Ok opened) → OpensNamed Honest state disk opened → Returned opened last
-      → Call last new → Honest (disk_of new) → Passes state past (disk_of last) (disk_of new) moments
-      → History texts (state (disk_of new)).content
+      (texts : KitTexts) (p : programs.Program) (disk : programs.Disk p) (last new : Store (programs.Disk p)) (moments : List DiskState)
+      → History texts (content_of p disk) → Ran p disk last → Calls p last new moments → History texts (content_of p (disk_of new))
 
-  -- and so is what a stop leaves within an opening of such a file, whether that answers with a store or not
+  -- and so is what a crash leaves within an opening of such a file, whether that answers with a store or not
   abbrev pub HistoriesStay : Type 0
   HistoriesStay =
-      (texts : KitTexts) (disk : D) (result : Result (Store D) (opening.Refused D)) (moments : List DiskState) (image : List ℕ)
-      → History texts (state disk).content → Opens Honest state past disk result → Honest (disk_behind result)
-      → Passes state past disk (disk_behind result) moments → IsImageOfOne moments image → History texts image
+      (texts : KitTexts) (p : programs.Program) (disk : programs.Disk p) (result : Result (Store (programs.Disk p)) (opening.Refused (programs.Disk p)))
+      (moments : List DiskState) (image : List ℕ)
+      → History texts (content_of p disk) → Opens (programs.ghosts p).Honest (programs.ghosts p).state (programs.ghosts p).past disk result
+      → (programs.ghosts p).Honest (disk_behind result)
+      → Passes (programs.ghosts p).state (programs.ghosts p).past disk (disk_behind result) moments → IsImageOfOne moments image → History texts image
 
   -- each such file keeps tables, and its root names just their snapshots
   abbrev pub HistoriesNameSnapshots : Type 0
@@ -108,6 +128,7 @@ module _ {D : Type 0} (Honest Works : D → Type 0) (state : D → DiskState) (p
   -- snapshots for each table in the file's root, beside those of its records.
   abbrev pub HistoriesPlayFew : Type 0
   HistoriesPlayFew =
-      (texts : KitTexts) (disk : D) (store : Store D) → History texts (state disk).content
-      → Opens Honest state past disk (Ok store) → OpensNamed Honest state disk store → Honest (disk_of store)
-      → PlaysFew (state disk).content (held_of store).kit (replayed_of store)
+      (texts : KitTexts) (p : programs.Program) (disk : programs.Disk p) (store : Store (programs.Disk p)) → History texts (content_of p disk)
+      → Opens (programs.ghosts p).Honest (programs.ghosts p).state (programs.ghosts p).past disk (Ok store)
+      → OpensNamed (programs.ghosts p).Honest (programs.ghosts p).state disk store → (programs.ghosts p).Honest (disk_of store)
+      → PlaysFew (content_of p disk) (held_of store).kit (replayed_of store)

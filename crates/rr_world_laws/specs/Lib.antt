@@ -1,4 +1,5 @@
 pub mod Worlds
 pub mod Sessions
 pub mod Services
+pub mod Programs
 pub mod FewPlays

@@ -7,6 +7,7 @@ use Rattle.rr_kit.specs.declared.kit.Kit.{Kit}
 use Rattle.rr_kit.specs.Kits.{IsWrongKit, KitTexts, SpellsKit}
 use Rattle.rr_game.specs.Play.{play, players_of}
 use Rattle.rr_laws.specs.Best.{HasBestRuns}
+use Rattle.rr_laws.specs.Dividends.{HasRightDividends}
 use Rattle.rr_laws.specs.Sound.{IsSoundTable, NamesCorporations}
 use Rattle.rr_tables.specs.Records.Headline.{IsSafe, KeepsTables}
 use Rattle.rr_tables.specs.Records.Schedules.{of_tables}
@@ -26,20 +27,25 @@ AreInOrder kit tables = AllByRecursion (λ t. IsSoundTable kit.roster (length (p
 abbrev pub HaveBestRuns : Kit → World → Type 0
 HaveBestRuns kit tables = AllByRecursion (λ t. HasBestRuns kit (play kit t.1.commands).book) tables
 
--- both
-abbrev pub IsSoundWorld : Kit → World → Type 0
-IsSoundWorld kit tables = AreInOrder kit tables × HaveBestRuns kit tables
+-- each dividend that a table paid or withheld was right
+abbrev pub HaveRightDividends : Kit → World → Type 0
+HaveRightDividends kit tables = AllByRecursion (λ t. HasRightDividends kit t.1.commands) tables
 
--- so it is whatever lawful requests led to the world
+-- all three
+abbrev pub IsSoundWorld : Kit → World → Type 0
+IsSoundWorld kit tables = AreInOrder kit tables × HaveBestRuns kit tables × HaveRightDividends kit tables
+
+-- so it is whatever lawful requests led to the world; for dividends the kit has to be a right one
 abbrev pub WorldsAreSound : Type 0
 WorldsAreSound =
-    (kit : Kit) (requests : List TableRequest) (tables : World) → NamesCorporations kit → Follows kit [] requests tables → IsSoundWorld kit tables
+    (kit : Kit) (requests : List TableRequest) (tables : World) → NamesCorporations kit → Follows kit [] requests tables
+    → AreInOrder kit tables × HaveBestRuns kit tables × ((texts : KitTexts) → SpellsKit texts kit → HaveRightDividends kit tables)
 
 -- and so is each world for which a file stands, with the kit that its texts spell
 abbrev pub FilesAreSound : Type 0
 FilesAreSound =
     (file : List ℕ) (texts : KitTexts) (tables : World) → StandsFor file texts tables
-    → (kit : Kit) × SpellsKit texts kit × AreInOrder kit tables × ∥ HaveBestRuns kit tables ∥₁
+    → (kit : Kit) × SpellsKit texts kit × AreInOrder kit tables × ∥ HaveBestRuns kit tables × HaveRightDividends kit tables ∥₁
 
 -- The acknowledged requests lead to tables that are sound, and each image keeps these or, where a request is pending,
 -- those with it, which are sound as well.

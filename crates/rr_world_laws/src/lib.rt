@@ -8,6 +8,8 @@
 //! `histories_play_few`, at the root.
 #![tactic(auto)]
 
+mod disk_types;
+
 ghost use Rattle.std.specs.Prelude.{IfOk};
 ghost use Rattle.rr_kit.specs.Kits.{KitTexts};
 ghost use Rattle.rr_store.specs.Allowing.{Keeps};
@@ -18,13 +20,14 @@ ghost use Rattle.rr_world_laws.specs.Services.{ProgramsGoOn, ServicesGoOn, Servi
 ghost use Rattle.rr_world_laws.specs.Sessions.{SafeSessionsGoOn, SessionsAreSound, SessionsGoOn, SoundSessionsGoOn};
 ghost use Rattle.rr_world_laws.specs.Worlds.{FilesAreSound, RightKitsAreNotWrong, StandingFilesOpen, WhateverComesIsSound, WorldsAreSound, WorldsDiffer};
 
+pub use disk_types::{OneType, OneTypeMore, Programs, ProgramsOnDisks};
 use rr_disk::Disk;
 use rr_store::{Refused, Store, open};
 use std::alloc::Global;
 
 /// Whatever commits, steps of checkpoints, faults, crashes and openings come to a new file, each image keeps the world
-/// of the acknowledged requests, or that with the pending one. In it each table is in order, and no run of a
-/// corporation's trains earned more than one paid as best.
+/// of the acknowledged requests, or that with the pending one. In it each table is in order, no run of a corporation's
+/// trains earned more than one paid as best, and each dividend that was paid or withheld was right.
 pub fn whatever_comes_is_sound()
     ensures { WhateverComesIsSound }
 {
@@ -32,6 +35,7 @@ pub fn whatever_comes_is_sound()
     rr_laws::plays_go_on();
     rr_laws::sound();
     rr_laws::best_runs_were_best();
+    rr_laws::never_pays_a_wrong_dividend();
     rr_laws::kits_name_corporations();
 }
 
@@ -87,13 +91,14 @@ pub fn services_keep_in_time<D: Disk>()
 {}
 
 /// Whatever lawful requests led to a world, each of its tables is in order and had no run as best but one that was,
-/// with a kit whose roster names each corporation.
+/// with a kit whose roster names each corporation. With a right kit each of its dividends was right, too.
 pub fn worlds_are_sound()
     ensures { WorldsAreSound }
 {
     rr_laws::plays_go_on();
     rr_laws::sound();
     rr_laws::best_runs_were_best();
+    rr_laws::never_pays_a_wrong_dividend();
 }
 
 /// Each file that stands for a world stands for one whose tables are so.
@@ -102,6 +107,7 @@ pub fn files_are_sound()
 {
     rr_laws::sound();
     rr_laws::best_runs_were_best();
+    rr_laws::never_pays_a_wrong_dividend();
     rr_laws::kits_name_corporations();
 }
 
@@ -148,23 +154,22 @@ pub fn open_in_a_history<D: Disk + Drop>(alloc: Global, disk: D) -> Result<Store
     open(alloc, disk)
 }
 
-/// Few commands are played to open a file, whatever programs with one type of disk opened it since it was new, and
-/// whatever commits, ticks and checkpoints they made. What a crash leaves between two calls, or at any moment of one,
-/// keeps tables, and its root has exactly the snapshots that each needs. So does what a call leaves whose device
-/// failed.
-pub fn histories_play_few<D: Disk>()
-    // So a file begins that is formatted, and so it goes on where a program ends, also behind a call whose device failed.
-    ensures begin { HistoriesBegin D.Honest D.Works D.state D.past D.fault_count D.write_count D.sync_count }
-    ensures go_on { HistoriesGoOn D.Honest D.Works D.state D.past D.fault_count D.write_count D.sync_count }
-    ensures end { HistoriesEnd D.Honest D.Works D.state D.past D.fault_count D.write_count D.sync_count }
-    // And so it is where a stop comes within an opening.
-    ensures stay { HistoriesStay D.Honest D.Works D.state D.past D.fault_count D.write_count D.sync_count }
+/// Few commands are played to open a file, whatever programs opened it since it was new, each with a type of disk that
+/// may be its own, and whatever commits, ticks and checkpoints they made. What a crash leaves between two calls, or at
+/// any moment of one, keeps tables, and its root has exactly the snapshots that each needs. So does what a call leaves
+/// whose device failed.
+pub fn histories_play_few<P: ProgramsOnDisks>()
+    // A file that was formatted begins a history. It goes on when a program ends, also after a call whose device failed.
+    ensures begin { HistoriesBegin P.programs }
+    ensures go_on { HistoriesGoOn P.programs }
+    ensures end { HistoriesEnd P.programs }
+    // It also goes on if a crash comes within an opening.
+    ensures stay { HistoriesStay P.programs }
 
     // Its root is so, and each opening plays few commands.
-    ensures named { HistoriesNameSnapshots D.Honest D.Works D.state D.past D.fault_count D.write_count D.sync_count }
-    ensures few { HistoriesPlayFew D.Honest D.Works D.state D.past D.fault_count D.write_count D.sync_count }
+    ensures named { HistoriesNameSnapshots P.programs }
+    ensures few { HistoriesPlayFew P.programs }
 {
     snapshots_are_short();
     rr_store::laws::openings_play_few();
-    rr_store::laws::named_roots_play_few::<D>();
 }

@@ -18,7 +18,7 @@ use Rattle.rr_game.specs.declared.game.Game.{Game}
 use Rattle.rr_game.specs.declared.history.fault.Fault.{Fault}
 use Rattle.rr_game.specs.declared.history.fault.Fault.TheVariants as F
 use Rattle.rr_game.specs.Keeping.{IsGameOf}
-use Rattle.rr_game.specs.Play.{begins_with_opening, entries_by, play, players_of}
+use Rattle.rr_game.specs.Play.{begins_with_opening, entries_of_command, play, players_of}
 use Rattle.rr_game.specs.Turning.{ends_turn}
 use Rattle.rr_game.specs.History.TurnEntries.{book_at, book_verdict, is_readable_turn, turn_entries}
 use Rattle.rr_game.proofs.Playing.{book_more, opens}
@@ -119,7 +119,7 @@ entries_of_opening kit commands players es k none begun seated is =
 
 -- one command more
 pub one_command_more : (kit : Kit) (front : List Command) (c : Command) (before : Book) (all : List Book) (es : Book) (next : List Command) → begins_with_opening front ≡ true
-    → before ++ joined all ≡ (play kit front).book → es ≡ entries_by kit front c → next ≡ front ++ c ∷ []
+    → before ++ joined all ≡ (play kit front).book → es ≡ entries_of_command kit front c → next ≡ front ++ c ∷ []
     → before ++ joined (all ++ es ∷ []) ≡ (play kit next).book
 one_command_more kit front c before all es next begun so_far is more =
     sym (flat_map_more (λ (b : Book). b) before all es)

@@ -15,7 +15,8 @@ use Rattle.rr_game.specs.Turning.{ends_turn}
 abbrev pub book_at : Kit → List Command → ℕ → Book
 book_at kit commands turn = (play kit (first_turns (ends_turn kit) turn commands)).book
 
--- the entries that the commands of a turn added; turn 0 is the opening, which added all there is
+-- the entries of a turn: the book at its end, without the book at the end of the turn before; those of turn 0 are the
+-- opening's
 abbrev pub turn_entries : Kit → List Command → ℕ → Book
 turn_entries kit commands turn =
     if turn == 0 then book_at kit commands 0

@@ -23,14 +23,14 @@ use rr_kit::Kit;
 use std::alloc::Global;
 
 impl Table {
-    /// The entries that the commands of a turn added to the table's book, oldest first: a list for each command. Turn 0 is
-    /// the opening. The turn after the last one that has ended is the turn under way. The commands are played from the
-    /// nearest snapshot before the turn.
+    /// The entries that the commands of a turn added to the table's book: lists that joined have them all, oldest
+    /// first. Turn 0 is the opening. The turn after the last one that has ended is the turn under way. To find them
+    /// the commands from the nearest snapshot before the turn on are played.
     ///
     /// # Errors
     ///
-    /// `TurnNotKept` for a turn at or below the floor, except turn 0 if the floor is 0, and for a turn after the one under
-    /// way; then `OutOfMemory`.
+    /// `TurnNotKept` for a turn at or below the floor, except turn 0 if the floor is 0, and for a turn after the one
+    /// under way; then `OutOfMemory`.
     pub fn book(&self, alloc: Global, turn: u64, kit: &Kit) -> Result<Vec<Entries>, Fault>
         ensures { IsPlayed kit.now self.now → MatchResult result
             (λ all. (book_verdict kit.now (kept_in self.now) turn ≡ None)
@@ -96,7 +96,7 @@ fn opening(alloc: Global, players: &Players, kit: &Kit) -> Result<Vec<Entries>, 
     Ok(all)
 }
 
-// The entries of a table's commands from those that a game has played up to the first `count`: a list for each command.
+// The entries of the commands after those that `game` has played, up to command `count`.
 fn entries_up_to(
     alloc: Global,
     game: Game,
@@ -112,7 +112,7 @@ fn entries_up_to(
         ∥ ArePlayed kit.now (take count kept.now.commands) ∥₁ → IsOkUnless result Fault.OutOfMemory }
 {
     crate::laws::commands_have_one_verdict();
-    // The table's bound on commands, which `apply` requires.
+    // `kept.len()` shows the bound on commands that `apply` requires.
     let _count = kept.len();
     let start = game.played as usize;
     let mut next = game;
