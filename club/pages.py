@@ -54,13 +54,13 @@ def text_of(view: View, before: View | None) -> str:
     """The mail. Of the turns it has those since the earlier view, or all."""
     old, first = before or view, len(before.turns.rows) - 1 if before else 0
     tiles = [starred(f"{number}: {left}", left != old.tiles_left[number]) for number, left in view.tiles_left.items()]
-    board, laid = described(view.layout, ()), laid_since(view, old)
+    laid = laid_since(view, old)
+    board = [starred(it, it.split(" ")[0] in laid) for it in described(view.layout, ())]
     log = [f"{number:>4}  {row['Played']}  [{row['Changed']}]".replace("  []", "") for number, row in view.turns.rows.items()]
     return "\n".join([
         f"Table {view.table}. Stamp {view.stamp}.{f' A star marks what changed since the stamp {before.stamp}.' if before else ''}",
         *due_text(view), "", *(line for sheets in zip(view.sheets, old.sheets) for line in sheet_text(*sheets)),
-        "Board", *(starred(it, it.split(" ")[0] in laid) for it in board), "", "Tiles left", *(", ".join(tiles[it:it + 6]) for it in range(0, len(tiles), 6)), "",
-        "Turns", *log[first:], ""])
+        "Board", *board, "", "Tiles left", *(", ".join(tiles[it:it + 6]) for it in range(0, len(tiles), 6)), "", "Turns", *log[first:], ""])
 
 
 def due_text(view: View) -> list[str]:

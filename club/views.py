@@ -70,9 +70,10 @@ class Observer:
         due = self.ask("due")
         # While a corporation has too many trains, nothing else can be done.
         drops = [f"drop {it} KIND" for it in self.ask("order") if len(self.ask("trains", it)) > TRAIN_LIMITS[self.phase]]
-        sheets = [Sheet("Players", {it: self.player(it) for it in self.players}),
-                  Sheet("Corporations", {it: self.corporation(it) for it in dict.fromkeys([*self.ask("order"), *CORPORATIONS])}),
-                  Sheet("Privates", {it: self.private(it) for it in PRIVATES}), Sheet("Trains", {it: self.train(it) for it in TRAIN_LIMITS})]
+        ordered = dict.fromkeys([*self.ask("order"), *CORPORATIONS])
+        rows = {"Players": (self.player, self.players), "Corporations": (self.corporation, ordered), "Privates": (self.private, PRIVATES),
+                "Trains": (self.train, TRAIN_LIMITS)}
+        sheets = [Sheet(title, {it: row_of(it) for it in names}) for title, (row_of, names) in rows.items()]
         bank, owed = self.dollars("cash", "bank"), self.dollars("iou")
         summary = f"{self.ask('turns')[0]} turns have ended. It's phase {self.phase}. The bank has {bank}, and owes {owed}."
         log = {str(number): {"Played": played(commands), "Changed": effects(entries, self.kit.chart)}
@@ -88,10 +89,10 @@ class Observer:
         shares = [f"{it} {held[0]}%" for it in CORPORATIONS if (held := self.ask("holds", name, it)) != ["0"]]
         privates = self.ask("privates", name)
         # Shares in yellow, orange and brown don't count against the limit.
-        coloured = [name for name, it in self.books.tokens.items() if it.cell(self.kit.chart).mark not in (Mark.WHITE, Mark.PAR)]
+        coloured = [it.corporation for it in self.books.tokens.values() if it.cell(self.kit.chart).mark not in (Mark.WHITE, Mark.PAR)]
         count = len(privates) + sum(len(self.books.those_at(it, name)) for it in CORPORATIONS if it not in coloured)
-        return {"Cash": self.dollars("cash", name), "Worth": self.dollars("worth", name), "Certificates": f"{count} of {self.ask('limit')[0]}",
-                "Shares": ", ".join(shares), "Privates": ", ".join(privates),
+        return {"Cash": self.dollars("cash", name), "Worth": self.dollars("worth", name),
+                "Certificates": f"{count} of {self.ask('limit')[0]}", "Shares": ", ".join(shares), "Privates": ", ".join(privates),
                 "President of": ", ".join(it for it in CORPORATIONS if self.books.places[f"{it}-P"] == name),
                 "Priority": "yes" if name == self.priority else ""}
 

@@ -225,7 +225,7 @@ class TerminalTest(EveningTest):
         who = self.say(terminal, "who")
         self.assertRegex(who, r"(?m)^ann +\$1180 +\$1200 +1 of 28 +SV$")
         self.assertRegex(who, r"(?m)^D&H +\$70 +\$15 +offering +bob \$75$")
-        self.assertIn("2 turns have ended. It's phase 2. The bank has $9620, and owes $0.\nann is due: auction.\n  buy ann\n  bid ann PRIVATE DOLLARS\n", who)
+        self.assertIn("2 turns have ended. It's phase 2. The bank has $9620, and owes $0.\nann is due: auction.\n  buy ann\n  bid ann", who)
         self.assertIn("The turns that can be named are 0 to 2.", self.say(terminal, "back 3"))
         self.assertIn("The tables are: g1.", self.say(terminal, "table g2"))
         self.assertIn("g2 1 cat auction> ", self.say(terminal, "g2 open cat dan"))

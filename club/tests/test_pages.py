@@ -209,9 +209,9 @@ class StructureTest(PagesTest):
         for game, table, wanted in (("first_game", "g1", FIRST_GAME), ("equal_heirs", "heirs", EQUAL_HEIRS)):
             store, program = self.played(game)
             page = html_of(view_of(program, read_kept(store.read_bytes()), table), None)
-            rows = [[unescape(re.sub("<.*?>", "", cell)) for cell in re.findall("<t[hd]>(.*?)</t[hd]>", row)] for row in page.split("<tr>")[1:]]
-            lines = wanted.strip().splitlines()
-            self.assertEqual([" | ".join(row).replace("|  |", "| |").replace("|  |", "| |").rstrip() for row in rows][:len(lines)], lines)
+            rows, lines = page.split("<tr>")[1:], wanted.strip().splitlines()
+            cells = [[unescape(it) for it in re.findall("<t[hd]>(.*?)</t[hd]>", row)] for row in rows]
+            self.assertEqual([" | ".join(it).replace("  ", " ").replace("  ", " ").rstrip() for it in cells][:len(lines)], lines)
 
     def test_the_turns_of_a_game(self) -> None:
         """By the lines of `equal_heirs`, in which privates have no incomes; in turn 14 60% of NYC are sold, and in 26 PRR's turn begins."""
@@ -229,8 +229,8 @@ class StructureTest(PagesTest):
     def test_choices(self) -> None:
         """By docs/REFERENCE.md: in the auction one buys the cheapest private, bids or passes; after `hold` one deals with trains."""
         wanted = {("first_game", "g1"): ["buy b", "bid b PRIVATE DOLLARS", "pass b"],
-                  ("equal_heirs", "heirs"): ["train NYC KIND bank|pool", "train NYC KIND CORPORATION DOLLARS PLAYER PLAYER", "trade NYC KIND",
-                                             "private NYC PRIVATE DOLLARS", "force NYC", "raise PLAYER CORPORATION SHARES",
+                  ("equal_heirs", "heirs"): ["train NYC KIND bank|pool", "train NYC KIND CORPORATION DOLLARS PLAYER PLAYER",
+                                             "trade NYC KIND", "private NYC PRIVATE DOLLARS", "force NYC", "raise PLAYER CORPORATION SHARES",
                                              "bankrupt PLAYER", "end NYC"]}
         for (game, table), choices in wanted.items():
             store, program = self.played(game)
@@ -294,8 +294,9 @@ class CommandsTest(PagesTest):
     def test_what_cannot_be_shown(self) -> None:
         store = self.store()
         (self.folder / "text").write_text("no store")
-        for words, said in (((store, "g9"), "has no table g9"), ((self.folder / "nothing",), "No such file"), ((self.folder / "text",), "no 64 not a store")):
-            ran = self.run_desk("page", *words[1:], "--file", words[0])
+        for file, tables, said in ((store, ["g9"], "has no table g9"), (self.folder / "nothing", [], "No such file"),
+                                   (self.folder / "text", [], "no 64 not a store")):
+            ran = self.run_desk("page", *tables, "--file", file)
             self.assertEqual((ran.returncode, ran.stdout), (2, ""))
             self.assertIn(said, ran.stderr)
         lock = take_lock(store)

@@ -11,7 +11,7 @@ from pathlib import Path
 sys.path.insert(0, str(Path(__file__).resolve().parent))
 from desk import ROOT, StoreTest, recorded
 
-from club.books import Books, entries_of, read_books
+from club.books import Books, entries_of
 from club.client import Program
 from club.kept import Kept, read_kept, turns_of
 from club.kit import CORPORATIONS, PRIVATES
@@ -198,7 +198,8 @@ class FiguresTest(ViewsTest):
 
     def compare_table(self, table: Follower, view: View) -> None:
         bank, owed, phase = table.ask("cash", "bank")[0], table.ask("iou")[0], table.ask("phase")[0]
-        self.assertEqual(view.summary, f"{table.ask('turns')[0]} turns have ended. It's phase {phase}. The bank has ${bank}, and owes ${owed}.")
+        turns = f"{table.number('turns')} turns have ended."
+        self.assertEqual(view.summary, f"{turns} It's phase {phase}. The bank has ${bank}, and owes ${owed}.")
         title = "The game is over" if table.ask("due") == ["over"] else "{} is due: {}".format(*table.ask("due"))
         self.assertEqual((view.stamp, view.title, view.phase), (table.number("stamp"), title, phase))
         for token in view.tokens:
@@ -311,7 +312,7 @@ class ChangesTest(ViewsTest):
         self.assertEqual(after, replace(before, stamp=stamp + 1))
 
     def test_a_table_as_it_was(self) -> None:
-        """At each stamp since `back` it's shown as it was then. Since the stamp 4 or less four or more commands were taken, and five are kept."""
+        """Of the eight commands five are kept. At each stamp since `back` the table is shown as it was; before it, as it was opened."""
         store, program = self.serve()
         lines, views = ["open a b", "buy a", "bid b C&A 165", "pass a", "back 1", "buy b", "pass a", "bid b C&A 170"], []
         for stamp, line in enumerate(lines):
