@@ -3,7 +3,7 @@ from __future__ import annotations
 
 from collections.abc import Sequence
 from dataclasses import dataclass, replace
-from functools import cached_property
+from functools import cache, cached_property
 from itertools import groupby
 
 from club.books import Books, effects
@@ -53,13 +53,11 @@ class Observer:
     """What is known of a table: its commands and its books by turns, and what a program answers."""
 
     def __init__(self, program: Program, table: str, kit: Kit, turns: list[list[str]], books: Books) -> None:
-        self.program, self.table, self.kit, self.turns, self.books = program, table, kit, turns, books
+        self.table, self.kit, self.turns, self.books = table, kit, turns, books
+        # The answer to a query about the table, which is asked once.
+        self.ask = cache(lambda query, *words: program.ask(" ".join((query, table, *words))))
         self.players, self.phase = turns[0][0].split(" ")[1:], self.ask("phase")[0]
         self.private_owners = {it: owner for owner in [*self.players, *CORPORATIONS] for it in self.ask("privates", owner)}
-
-    def ask(self, query: str, *words: str) -> list[str]:
-        """The answer to a query about the table."""
-        return self.program.ask(" ".join((query, self.table, *words)))
 
     def dollars(self, query: str, *words: str) -> str:
         """The money that a query answers with, if there is any."""

@@ -108,13 +108,13 @@ document.title = [wide, before, shown(), getComputedStyle(document.body).backgro
 
 
 class Outline(HTMLParser):
-    """The elements of a page with their words. Each that is opened must be closed, in order."""
+    """The elements of a page with their words, without pictures. Each that is opened must be closed, in order."""
 
     def __init__(self, text: str) -> None:
         super().__init__()
         self.open: list[tuple[str, list[str]]] = []
         self.found: list[tuple[str, str]] = []
-        self.feed(text)
+        self.feed(re.sub("(?s)<svg.*?</svg>", "", text))
         self.close()
         assert not self.open, self.open
 
@@ -161,9 +161,11 @@ class PagesTest(StoreTest):
 
     def played(self, game: str) -> tuple[Path, Program]:
         """A store on which a recorded game was played."""
-        store, program = self.serve(game)
-        for line, _ in recorded(game):
-            program.line(line)
+        store = self.store(ROOT / "games" / game, f"{game}.store")
+        lines = "".join(f"{line}\n" for line, _ in recorded(game))
+        subprocess.run([self.program, "serve", store], input=lines.encode(), stdout=subprocess.DEVNULL, check=True)
+        program = Program(store, self.program)
+        self.addCleanup(program.stop)
         return store, program
 
     def run_desk(self, name: str, *words: str | Path) -> subprocess.CompletedProcess:

@@ -90,9 +90,13 @@ class Follower:
     def __init__(self, program: Program, store: Path, table: str) -> None:
         self.program, self.store, self.table = program, store, table
         self.ended: list[list[list[str]]] = []
+        self.answers: dict[str, list[str]] = {}
 
-    def ask(self, query: str, *words: str) -> list[str]:
-        return self.program.ask(" ".join((query, self.table, *words)))
+    def ask(self, *words: str) -> list[str]:
+        """The answer to a query about the table, which is asked once a turn."""
+        query = " ".join((words[0], self.table, *words[1:]))
+        self.answers[query] = self.answers.get(query) or self.program.ask(query)
+        return self.answers[query]
 
     def number(self, query: str, *words: str) -> int:
         return int(self.ask(query, *words)[0])
@@ -120,6 +124,7 @@ class ViewsTest(StoreTest):
         follower, turns = Follower(program, store, table), None
         for line, reply in recorded(game):
             program.line(line)
+            follower.answers.clear()
             if reply.startswith(f"ok {table} ") and turns != (turns := follower.number("turns")):
                 yield follower
 
