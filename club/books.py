@@ -16,7 +16,6 @@ Entry = list[str]
 @dataclass(frozen=True)
 class Books:
     """The entries of a table by turns: those of the opening first, and those of the turn under way last."""
-
     turns: list[list[Entry]]
 
     def all_of(self, verb: str) -> Iterator[Entry]:

@@ -18,7 +18,6 @@ DEVICE_FAILED = 60
 
 class Kind(Enum):
     """The first word of a reply."""
-
     TAKEN = "ok"
     ANSWER = "="
     REFUSED = "no"
@@ -27,7 +26,6 @@ class Kind(Enum):
 @dataclass(frozen=True)
 class Reply:
     """A reply: its kind, and the words after the first one. An empty answer has no words."""
-
     kind: Kind
     words: tuple[str, ...]
 

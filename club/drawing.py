@@ -25,7 +25,6 @@ CELL_SIDE = 52.0
 @dataclass(frozen=True)
 class MarketToken:
     """A corporation's token on the chart: row and column are counted from 0."""
-
     corporation: str
     row: int
     column: int
@@ -44,7 +43,6 @@ class Sketch:
     `slots` has for each centre the corporations whose tokens stand there, and then those for which a slot is kept, as they are
     `waiting` for their first token. Without a `phase` both values of an off-board area are bright.
     """
-
     colour: Colour
     face: Face
     slots: Sequence[Sequence[str]] = ()

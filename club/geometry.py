@@ -42,7 +42,6 @@ def middle_of(place: Place) -> complex:
 
 class Curve(NamedTuple):
     """A cubic curve from its first to its last point."""
-
     start: complex
     leaving: complex
     arriving: complex

@@ -20,7 +20,6 @@ ENDS_TURN = re.compile(r"(?:open|bid|pass|done|end|bankrupt|par \S+ B&O) .*|buy 
 @dataclass(frozen=True)
 class Kept:
     """A file's kit, for each table the commands that it keeps, `open` first and neither `back` nor `forget`, and the kit's texts."""
-
     kit: Kit
     tables: dict[str, list[str]]
     texts: Sequence[bytes] = ()

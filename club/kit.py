@@ -45,7 +45,6 @@ class KitError(Exception):
 
 class Colour(Enum):
     """The colour of a hex or of a tile."""
-
     WHITE = "white"
     YELLOW = "yellow"
     GREEN = "green"
@@ -61,7 +60,6 @@ class Colour(Enum):
 
 class Mark(Enum):
     """What a cell of the chart is, by its letter: one of a zone, or a par cell, which is white."""
-
     WHITE = ""
     YELLOW = "y"
     ORANGE = "o"
@@ -71,7 +69,6 @@ class Mark(Enum):
 
 class CentreKind(Enum):
     """The kind of a centre."""
-
     TOWN = "town"
     CITY = "city"
     OFF_BOARD = "off-board area"
@@ -79,7 +76,6 @@ class CentreKind(Enum):
 
 class Place(NamedTuple):
     """The axial place of a hex."""
-
     q: int
     r: int
 
@@ -92,14 +88,12 @@ class Place(NamedTuple):
 @dataclass(frozen=True)
 class Track:
     """A track between two edges."""
-
     edges: tuple[int, ...]
 
 
 @dataclass(frozen=True)
 class Centre:
     """A town, a city with its slots, or an off-board area with its value from the first 5 on; and the edges to which it has track."""
-
     kind: CentreKind
     value: int
     edges: tuple[int, ...]
@@ -115,7 +109,6 @@ FaceLink = tuple[tuple[int, ...], int | None]
 @dataclass(frozen=True)
 class Face:
     """What is printed on a hex or on a tile: tracks and centres in the order of the text, and a label."""
-
     parts: tuple[Part, ...] = ()
     label: str | None = None
 
@@ -146,7 +139,6 @@ class Face:
 @dataclass(frozen=True)
 class Tile:
     """A tile of the manifest, and how many of it there are."""
-
     colour: Colour
     number: int
     count: int
@@ -156,7 +148,6 @@ class Tile:
 @dataclass(frozen=True)
 class Hex:
     """A hex of the board, with what is printed on it. The first tile there costs `cost` dollars."""
-
     name: str
     place: Place
     colour: Colour
@@ -167,7 +158,6 @@ class Hex:
 @dataclass(frozen=True)
 class Token:
     """A corporation's token on a centre of a hex, counted from 1. Its home is where its first one is put."""
-
     corporation: str
     hex: str
     centre: int
@@ -176,7 +166,6 @@ class Token:
 @dataclass
 class Board:
     """The hexes by name, in the order of the text, the homes, and pairs of a private and a hex that it blocks."""
-
     hexes: dict[str, Hex] = field(default_factory=dict)
     homes: list[Token] = field(default_factory=list)
     blocks: list[tuple[str, str]] = field(default_factory=list)
@@ -220,7 +209,6 @@ class Board:
 @dataclass(frozen=True)
 class Cell:
     """A cell of the chart, with its price in dollars."""
-
     price: int
     mark: Mark
 
@@ -232,7 +220,6 @@ Chart = tuple[tuple[Cell | None, ...], ...]
 @dataclass(frozen=True)
 class Roster:
     """The numbers of the roster by the names of privates, corporations and kinds of train. Faces, incomes and prices are dollars."""
-
     faces: dict[str, int]
     incomes: dict[str, int]
     tokens: dict[str, int]
@@ -245,7 +232,6 @@ class Roster:
 @dataclass(frozen=True)
 class Kit:
     """What a file's tables are played with. The tiles stand by their number."""
-
     chart: Chart
     roster: Roster
     tiles: dict[int, Tile]

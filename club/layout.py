@@ -19,7 +19,6 @@ MOST_WAYS = 20_000
 @dataclass(frozen=True)
 class Lay:
     """A tile that was laid on a hex, turned by 0 to 5 sixths."""
-
     hex: str
     tile: int
     turn: int
@@ -28,7 +27,6 @@ class Lay:
 @dataclass(frozen=True)
 class Layout:
     """A board with the tiles that were laid and the tokens that were placed there, each oldest first."""
-
     kit: Kit
     lays: tuple[Lay, ...] = ()
     tokens: tuple[Token, ...] = ()
@@ -62,7 +60,6 @@ class Layout:
 @dataclass(frozen=True)
 class Hexside:
     """A side of a hex, which is one with the side of the hex across: `edge` is 0 to 2."""
-
     place: Place
     edge: int
 
@@ -70,7 +67,6 @@ class Hexside:
 @dataclass(frozen=True)
 class Stop:
     """A centre of the board: its number on the hex is counted from 1."""
-
     hex: str
     centre: int
 
@@ -81,7 +77,6 @@ Node = Hexside | Stop
 @dataclass(frozen=True)
 class Link:
     """A link of the board. Its second end is its centre, if it has one."""
-
     number: int
     hex: str
     ends: tuple[Node, Node]
@@ -157,7 +152,6 @@ def found_over(links: Sequence[Link], hexes: Sequence[str]) -> list[tuple[int, .
 @dataclass(frozen=True)
 class Way:
     """A way over links from a centre. Of the hexes that it is to stop in, it has come to `passed` after the first."""
-
     nodes: tuple[Node, ...]
     links: tuple[Link, ...]
     passed: int

@@ -48,7 +48,6 @@ Ask = Callable[[str], list[str]]
 @dataclass(frozen=True)
 class Case:
     """A line that was refused: its table, its own words (four at least, empty if they lack), and the reply's last word."""
-
     table: str
     words: list[str]
     last: str

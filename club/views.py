@@ -17,7 +17,6 @@ from club.refusals import choices
 @dataclass(frozen=True)
 class Sheet:
     """Some figures: rows by their names, each with its cells by the heads of their columns."""
-
     title: str
     rows: dict[str, dict[str, str]]
 
@@ -35,7 +34,6 @@ class Sheet:
 @dataclass(frozen=True)
 class View:
     """What is shown of a table. `turns` has what was played in each turn, and what that changed."""
-
     table: str
     stamp: int
     summary: str
