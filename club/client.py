@@ -1,9 +1,11 @@
-"""A client of `moderate serve`: one line out, one reply back, and what may be believed after a crash."""
+"""A client of `moderate serve`: one line out, one reply back, what may be believed after a crash, and a lock for the file."""
 from __future__ import annotations
 
+import fcntl
 import os
 import shutil
 import subprocess
+import time
 from collections.abc import Sequence
 from contextlib import suppress
 from dataclasses import dataclass
@@ -16,7 +18,6 @@ DEVICE_FAILED = 60
 
 class Kind(Enum):
     """The first word of a reply."""
-
     TAKEN = "ok"
     ANSWER = "="
     REFUSED = "no"
@@ -25,7 +26,6 @@ class Kind(Enum):
 @dataclass(frozen=True)
 class Reply:
     """A reply: its kind, and the words after the first one. An empty answer has no words."""
-
     kind: Kind
     words: tuple[str, ...]
 
@@ -131,3 +131,26 @@ class Program:
             self.serving.stdin.close()
         self.serving.stdout.close()
         return self.serving.wait()
+
+
+class Held(Exception):
+    """Somebody else holds the lock."""
+
+
+def take_lock(store: Path, seconds: float = 2) -> int:
+    """Locks `club.lock` for `club.store` and returns its descriptor. Raises Held if it can't be had within this time.
+
+    It is released once each process that has the descriptor has ended, in whatever way: hand it to `moderate` as well.
+    """
+    file = store.resolve().with_suffix(".lock")
+    descriptor = os.open(file, os.O_RDWR | os.O_CREAT, 0o666)
+    deadline = time.monotonic() + seconds
+    while True:
+        try:
+            fcntl.flock(descriptor, fcntl.LOCK_EX | fcntl.LOCK_NB)
+            return descriptor
+        except BlockingIOError:
+            if time.monotonic() >= deadline:
+                os.close(descriptor)
+                raise Held(f"{store} is in use: somebody else holds {file}") from None
+            time.sleep(0.02)

@@ -3,8 +3,6 @@
 Colours, light and dark, are in `style.css`. A page needs no script: the checkbox `LINKS_SWITCH` in front of a board shows and hides
 the numbers of its links.
 """
-from __future__ import annotations
-
 from collections.abc import Collection, Iterator, Sequence
 from dataclasses import dataclass
 from html import escape
@@ -12,7 +10,7 @@ from pathlib import Path
 
 from club.geometry import (
     APOTHEM, BOTTOM, CORNERS, SIZE, SLOT, TOP, Curve, between, curves_to, edge_point, middle_of, misfit, radius_of, stops_on, toward, word_spots)
-from club.kit import CORPORATIONS, EDGE_COUNT, LATE_TRAINS, Centre, CentreKind, Chart, Colour, Face, Mark, Part, Tile, Track
+from club.kit import CORPORATIONS, EDGE_COUNT, LATE_TRAINS, Cell, Centre, CentreKind, Chart, Colour, Face, Mark, Part, Tile, Track
 from club.layout import Layout
 
 STYLE = Path(__file__).with_name("style.css")
@@ -27,10 +25,15 @@ CELL_SIDE = 52.0
 @dataclass(frozen=True)
 class MarketToken:
     """A corporation's token on the chart: row and column are counted from 0."""
-
     corporation: str
     row: int
     column: int
+
+    def cell(self, chart: Chart) -> Cell:
+        """The cell of the chart on which it is."""
+        cell = chart[self.row][self.column]
+        assert cell
+        return cell
 
 
 @dataclass(frozen=True)
@@ -40,7 +43,6 @@ class Sketch:
     `slots` has for each centre the corporations whose tokens stand there, and then those for which a slot is kept, as they are
     `waiting` for their first token. Without a `phase` both values of an off-board area are bright.
     """
-
     colour: Colour
     face: Face
     slots: Sequence[Sequence[str]] = ()
@@ -76,7 +78,7 @@ def sketches_of(layout: Layout, phase: str | None, changed: Collection[str]) -> 
     first_link, waiting = 1, set(CORPORATIONS) - {it.corporation for it in layout.tokens}
     for on in layout.kit.board.hexes.values():
         face, lay = layout.face(on), layout.last_lay(on.name)
-        slots = [layout.tokens_on(on.name, it) + layout.kept_on(on.name, it) for it in range(1, len(face.centres) + 1)]
+        slots = [layout.slots(on.name, it) for it in range(1, len(face.centres) + 1)]
         cost, tile = (None, lay.tile) if lay else (on.cost, None)
         blocks = [private for private, name in layout.kit.board.blocks if name == on.name and not lay]
         yield Sketch(layout.colour(on), face, slots, waiting, on.name, cost, blocks, tile, phase, first_link, on.name in changed)

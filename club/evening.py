@@ -1,38 +1,25 @@
 """The prompt of an evening: it fills in stamps and tables, logs lines and replies, and explains what is refused."""
-from __future__ import annotations
-
 import os
 import re
 import select
-import subprocess
 import sys
-import tempfile
-from collections.abc import Iterator, Sequence
+from collections.abc import Sequence
 from contextlib import suppress
 from pathlib import Path
 
-from club.client import Ended, Program, Refused
+from club.client import Ended, Program, Refused, Reply
 from club.kept import Kept, read_kept, turns_of
-from club.kit import CORPORATIONS, Hex
-from club.layout import Layout
-from club.links import Hexside, Node, hexes_of, links_of, routes_through
-from club.refusals import COMMANDS, QUERIES, choices, explain
+from club.layout import Layout, described, hexes_of, links_of, routes_through
+from club.looking import view_before, view_of
+from club.pages import due_text, html_of, sheet_text
+from club.refusals import COMMANDS, QUERIES, explain, rows_under
 
 VERBS = {it[0] for it in COMMANDS}
 QUERY_LENGTHS = {it[0]: len(it) for it in QUERIES}
-PAGE = Path(__file__).with_name("page")
 QUOTED = re.compile(r"^[> \t]+| {2,}(?:ok|no|=) .*")  # what a mail puts before a line, and this prompt after it
 PASTE_SECONDS = 0.1  # for a terminal to hand over the next line of a paste
 SHOWN_LENGTH = 100  # of a line: the proof of a best run goes on for thousands
-HELP = """\
-Type what is played, as `buy ann`, or a query, as `cash ann`: stamp and table are filled in. Or paste an evening.
-  who              what everybody has, who is due, and what can be played
-  board, board B3  what lies on the hexes, or on some, with the numbers of the links (`links` is the same)
-  best, best PRR   plays a best run; `run PRR 2=B3-B5 3=-` plays one by the names of hexes, `-` for a train that stays
-  undo             takes the last turn back, after showing it
-  rest, rest off   sends the lines of a paste that a refusal stopped, or forgets them
-  table g2         goes on with table g2; `g2 open ann bob` opens it
-  quit             ends, as Ctrl-D does; Ctrl-C breaks a search off"""
+README = Path(__file__).with_name("README.md")
 
 
 class Mistake(Exception):
@@ -51,8 +38,9 @@ class Evening:
         self.table = "".join(program.ask("tables")[-1:])
         self.under_way: list[str] = []  # the line that is being taken, until it is known whether it was
         self.rest: list[str] = []
+        self.shown: dict[str, tuple[Reply, int]] = {}  # how many turns had ended at a table, and its stamp, as its page was written
         self.own = {"who": self.who, "board": self.board, "links": self.board, "undo": self.undo, "rest": self.send_rest,
-                    "table": self.choose, "help": lambda _: print(HELP)}
+                    "table": self.choose, "help": self.help}
         self.settle()
 
     def note(self, text: str) -> None:
@@ -91,6 +79,8 @@ class Evening:
                 if (text := input(self.prompt())).strip() == "quit":
                     return True
                 self.take_all(text.split("\n"))
+                if not is_waiting():
+                    self.write_pages()
             except EOFError:
                 return True
             except (KeyboardInterrupt, Ended):
@@ -164,8 +154,9 @@ class Evening:
     def play(self, command: str) -> None:
         """Sends a command, and shows what comes of it. Raises Mistake if it is refused."""
         _, table, verb, *_ = command.split(" ")
-        turns = self.program.line(f"turns {table}")
-        self.note(f"{self.program.stamp(table)}\t{command}\t")
+        turns, stamp = self.program.line(f"turns {table}"), self.program.stamp(table)
+        self.shown.setdefault(table, (turns, stamp))
+        self.note(f"{stamp}\t{command}\t")
         reply = self.program.line(command)
         self.note(f"{reply}\n")
         self.under_way = []
@@ -175,8 +166,17 @@ class Evening:
             raise Mistake(explain(command, reply, self.program.ask))
         if verb in ("run", "best"):
             self.show_run()
-        if self.program.line(f"turns {table}") != turns:
-            write_page(self.file, table)
+
+    def write_pages(self) -> None:
+        """Writes the pages of the tables at which turns ended, with the changes since their last pages or the evening's start."""
+        for table, (turns, stamp) in self.shown.items():
+            if (now := self.program.line(f"turns {table}")) != turns:
+                self.shown[table] = now, self.program.stamp(table)
+                try:
+                    views = view_of(self.program, self.kept(), table), view_before(self.program, self.kept(), table, stamp)
+                    self.file.with_name(f"{table}.html").write_text(html_of(*views), encoding="utf-8")
+                except (Refused, OSError) as why:
+                    print(f"  The page of {table} isn't written: {why}")
 
     def show_run(self) -> None:
         """The routes of the run that was taken last, by the names of their hexes."""
@@ -204,31 +204,15 @@ class Evening:
 
     def who(self, _: Sequence[str]) -> None:
         """What everybody has, who is due, and the lines that the step takes."""
-        for player in self.kept().tables[self.chosen()][0].split(" ")[1:]:
-            shares = [f"{it} {held[0]}%" for it in CORPORATIONS if (held := self.ask("holds", player, it)) != ["0"]]
-            self.show_owner(player, "worth", [*self.ask("privates", player), *shares])
-        for name in self.ask("order"):
-            self.show_owner(name, "price", [*(f"train {it}" for it in self.ask("trains", name)), *self.ask("privates", name)])
-        print(f"{self.table}: {self.ask('turns')[0]} turns, phase {self.ask('phase')[0]}, bank {self.ask('cash', 'bank')[0]}")
-        print(f"{' '.join(self.ask('due'))}: {', '.join(choices(self.ask('due')))}")
-
-    def show_owner(self, name: str, query: str, owned: Sequence[str]) -> None:
-        """A line about a player or a corporation, with the answer to one more query."""
-        print(f"{name:<13} cash {self.ask('cash', name)[0]:>5}  {query} {self.ask(query, name)[0]:>5}  {', '.join(owned)}".rstrip())
+        view = view_of(self.program, self.kept(), self.chosen())
+        print(*(line for it in view.sheets for line in sheet_text(it, it)), *due_text(view), sep="\n")
 
     def board(self, names: Sequence[str]) -> None:
         """What lies on hexes, and the numbers of the links there with what each one joins."""
         layout, names = self.layout(self.chosen()), [it.upper() for it in names]
         if strangers := set(names) - set(layout.kit.board.hexes):
             raise Mistake(f"The board has no hex {', '.join(sorted(strangers))}.")
-        links = links_of(layout)
-        for on in layout.kit.board.hexes.values():
-            lay = layout.last_lay(on.name)
-            joined = [f"{it.number}: {'-'.join(end_names(layout, on, it.ends))}" for it in links if it.hex == on.name]
-            tokens = [f"{it.corporation} on city {it.centre}" for it in layout.tokens if it.hex == on.name]
-            if on.name in names or (not names and (joined or tokens)):
-                tile = f"tile {lay.tile} turned {lay.turn}" if lay else layout.colour(on).value
-                print(f"{on.name:<5} {tile:<17} {', '.join([*joined, *tokens])}".rstrip())
+        print(*described(layout, names), sep="\n")
 
     def undo(self, _: Sequence[str]) -> None:
         """Takes back what was played since the last turn ended, or else that turn, if the person says so."""
@@ -244,6 +228,11 @@ class Evening:
             raise Mistake("Nothing was taken back.")
         self.take(["back", str(target)])
 
+    def help(self, _: Sequence[str]) -> None:
+        """What can be typed."""
+        for words, what in rows_under("## Play", README)[1:]:
+            print(f"  {words:<22} {what.replace('`', '')}")
+
     def send_rest(self, words: Sequence[str]) -> None:
         """Sends the lines of a paste that are left, or forgets them."""
         lines, self.rest = self.rest, []
@@ -257,30 +246,15 @@ class Evening:
         self.table = words[0]
 
 
-def end_names(layout: Layout, on: Hex, ends: Sequence[Node]) -> Iterator[str]:
-    """The ends of a link on a hex: the name of the hex across, or the kind of centre with its number."""
-    for end in ends:
-        if isinstance(end, Hexside):
-            across = layout.kit.board.at(end.place.across(end.edge) if end.place == on.place else end.place)
-            yield across.name if across else "edge"
-        else:
-            kind = layout.face(on).centres[end.centre - 1].kind.name.lower().replace("_", "-")
-            yield f"{kind} {end.centre}"
+def is_waiting() -> bool:
+    """Whether the terminal has more of a paste."""
+    return sys.stdin.isatty() and bool(select.select([sys.stdin], [], [], PASTE_SECONDS)[0])
 
 
 def pasted() -> list[str]:
     """The lines of a paste that the terminal hasn't handed over yet."""
     lines: list[str] = []
     with suppress(EOFError):
-        while sys.stdin.isatty() and select.select([sys.stdin], [], [], PASTE_SECONDS)[0]:
+        while is_waiting():
             lines += input().split("\n")
     return lines
-
-
-def write_page(file: Path, table: str) -> None:
-    """Writes the page of a table beside the file, from a copy of it; nothing if there is no club/page."""
-    if PAGE.exists():
-        with tempfile.NamedTemporaryFile(suffix=".store") as copy:
-            copy.write(file.read_bytes())
-            copy.flush()
-            subprocess.run([sys.executable, str(PAGE), table, "--file", copy.name, "-o", str(file.parent)], check=False)

@@ -1,6 +1,4 @@
 """What a kit that `moderate format` takes may still have wrong: texts that are right one by one, and don't fit together."""
-from __future__ import annotations
-
 from collections import defaultdict
 from collections.abc import Collection, Iterator
 
@@ -19,11 +17,9 @@ def findings(kit: Kit) -> list[str]:
 
 def of_homes_and_blocks(kit: Kit) -> Iterator[str]:
     """Corporations without a home, and privates without a block."""
-    homeless = set(CORPORATIONS) - {home.corporation for home in kit.board.homes}
-    if homeless:
+    if homeless := set(CORPORATIONS) - {home.corporation for home in kit.board.homes}:
         yield f"No `home` line for {listed(homeless)}: such a corporation gets no token, lays no tile and earns nothing."
-    free = set(PRIVATES) - {private for private, _ in kit.board.blocks}
-    if free:
+    if free := set(PRIVATES) - {private for private, _ in kit.board.blocks}:
         yield f"No `block` line for {listed(free)}: such a private blocks no hex."
 
 
@@ -84,12 +80,10 @@ def of_labels(kit: Kit) -> Iterator[str]:
     """Labels of tiles that no hex bears, and labels of hexes that no tile bears."""
     on_hexes = {it.face.label for it in kit.board.hexes.values()}
     on_tiles = {it.face.label for it in kit.tiles.values()}
-    for tile in kit.tiles.values():
-        if tile.face.label not in on_hexes | {None}:
-            yield f"No hex bears the label {tile.face.label} of tile {tile.number}."
-    for on in kit.board.hexes.values():
-        if on.face.label not in on_tiles | {None}:
-            yield f"No tile bears the label {on.face.label} of hex {on.name}."
+    lonely_tiles = [it for it in kit.tiles.values() if it.face.label not in on_hexes | {None}]
+    lonely_hexes = [it for it in kit.board.hexes.values() if it.face.label not in on_tiles | {None}]
+    yield from (f"No hex bears the label {it.face.label} of tile {it.number}." for it in lonely_tiles)
+    yield from (f"No tile bears the label {it.face.label} of hex {it.name}." for it in lonely_hexes)
 
 
 def of_tiles(kit: Kit) -> Iterator[str]:

@@ -3,8 +3,6 @@
 A point is a complex number, whose imaginary part grows downwards. The middle of the hex is 0. Edge 0 looks to the lower right, and
 the edges go round clockwise.
 """
-from __future__ import annotations
-
 from cmath import rect
 from math import radians, sqrt
 from typing import NamedTuple
@@ -44,7 +42,6 @@ def middle_of(place: Place) -> complex:
 
 class Curve(NamedTuple):
     """A cubic curve from its first to its last point."""
-
     start: complex
     leaving: complex
     arriving: complex
@@ -66,12 +63,6 @@ def between(start: int, end: int) -> Curve:
     return Curve(edge_point(start), edge_point(start, depth), edge_point(end, depth), edge_point(end))
 
 
-def spur(edge: int, stop: complex) -> Curve:
-    """The track from an edge to a centre."""
-    half = edge_point(edge, APOTHEM / 2)
-    return Curve(edge_point(edge), half, half * 0.4 + stop * 0.6, stop)
-
-
 def lies_on_arc(face: Face, centre: Centre) -> bool:
     """Whether a centre is drawn upon the track between its two edges: a town, or a city that isn't alone."""
     return len(centre.edges) == 2 and (centre.kind is CentreKind.TOWN or (centre.kind is CentreKind.CITY and len(face.parts) > 1))
@@ -81,7 +72,7 @@ def curves_to(face: Face, centre: Centre, stop: complex) -> list[Curve]:
     """The tracks of a centre that stands at a point: one for each of its edges."""
     if lies_on_arc(face, centre):
         return [between(*centre.edges), between(*reversed(centre.edges))]
-    return [spur(edge, stop) for edge in centre.edges]
+    return [Curve(edge_point(it), half := edge_point(it, APOTHEM / 2), half * 0.4 + stop * 0.6, stop) for it in centre.edges]
 
 
 def radius_of(centre: Centre) -> float:

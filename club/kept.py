@@ -1,6 +1,4 @@
 """What a file keeps of its tables: the kit, and the commands of each table, from which follows what lies on its board."""
-from __future__ import annotations
-
 import re
 import sys
 from collections.abc import Sequence
@@ -21,10 +19,10 @@ ENDS_TURN = re.compile(r"(?:open|bid|pass|done|end|bankrupt|par \S+ B&O) .*|buy 
 
 @dataclass(frozen=True)
 class Kept:
-    """A file's kit, and for each table the commands that it keeps, `open` first and neither `back` nor `forget`."""
-
+    """A file's kit, for each table the commands that it keeps, `open` first and neither `back` nor `forget`, and the kit's texts."""
     kit: Kit
     tables: dict[str, list[str]]
+    texts: Sequence[bytes] = ()
 
     def layout(self, table: str, due: str) -> Layout:
         """The board as it lies. A corporation has its token at home from its first turn on, so also if it is `due`."""
@@ -51,7 +49,7 @@ def read_kept(data: bytes) -> Kept:
             commands[:] = sum(turns_of(commands)[:int(words[0]) + 1], [])
         elif verb != "forget":
             commands.append(" ".join([verb, *words]))
-    return Kept(read_kit(dict(zip(TEXTS, store.texts))), tables)
+    return Kept(read_kit(dict(zip(TEXTS, store.texts))), tables, store.texts)
 
 
 def turns_of(commands: Sequence[str]) -> list[list[str]]:

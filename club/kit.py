@@ -9,7 +9,6 @@ import tomllib
 from collections.abc import Callable, Mapping
 from dataclasses import dataclass, field, replace
 from enum import Enum
-from functools import partial
 from itertools import count
 from pathlib import Path
 from typing import NamedTuple
@@ -21,6 +20,8 @@ PRIVATES = ("SV", "C&SL", "D&H", "M&H", "C&A", "B&O")
 CORPORATIONS = ("PRR", "NYC", "CPR", "B&O", "C&O", "ERIE", "NYNH", "B&M")
 # From the first train of these kinds on an off-board area has its later value.
 LATE_TRAINS = ("5", "6", "D")
+# How many trains a corporation may have, by the phase.
+TRAIN_LIMITS = {"2": 4, "3": 4, "4": 3, "5": 2, "6": 2, "D": 2}
 # Each text, with the name of its file; a file may also have the name of its text alone.
 TEXTS = {"chart": "chart.txt", "roster": "roster.toml", "tiles": "tiles.txt", "board": "board.txt"}
 
@@ -44,7 +45,6 @@ class KitError(Exception):
 
 class Colour(Enum):
     """The colour of a hex or of a tile."""
-
     WHITE = "white"
     YELLOW = "yellow"
     GREEN = "green"
@@ -60,7 +60,6 @@ class Colour(Enum):
 
 class Mark(Enum):
     """What a cell of the chart is, by its letter: one of a zone, or a par cell, which is white."""
-
     WHITE = ""
     YELLOW = "y"
     ORANGE = "o"
@@ -70,7 +69,6 @@ class Mark(Enum):
 
 class CentreKind(Enum):
     """The kind of a centre."""
-
     TOWN = "town"
     CITY = "city"
     OFF_BOARD = "off-board area"
@@ -78,7 +76,6 @@ class CentreKind(Enum):
 
 class Place(NamedTuple):
     """The axial place of a hex."""
-
     q: int
     r: int
 
@@ -91,14 +88,12 @@ class Place(NamedTuple):
 @dataclass(frozen=True)
 class Track:
     """A track between two edges."""
-
     edges: tuple[int, ...]
 
 
 @dataclass(frozen=True)
 class Centre:
     """A town, a city with its slots, or an off-board area with its value from the first 5 on; and the edges to which it has track."""
-
     kind: CentreKind
     value: int
     edges: tuple[int, ...]
@@ -114,7 +109,6 @@ FaceLink = tuple[tuple[int, ...], int | None]
 @dataclass(frozen=True)
 class Face:
     """What is printed on a hex or on a tile: tracks and centres in the order of the text, and a label."""
-
     parts: tuple[Part, ...] = ()
     label: str | None = None
 
@@ -145,7 +139,6 @@ class Face:
 @dataclass(frozen=True)
 class Tile:
     """A tile of the manifest, and how many of it there are."""
-
     colour: Colour
     number: int
     count: int
@@ -155,7 +148,6 @@ class Tile:
 @dataclass(frozen=True)
 class Hex:
     """A hex of the board, with what is printed on it. The first tile there costs `cost` dollars."""
-
     name: str
     place: Place
     colour: Colour
@@ -166,7 +158,6 @@ class Hex:
 @dataclass(frozen=True)
 class Token:
     """A corporation's token on a centre of a hex, counted from 1. Its home is where its first one is put."""
-
     corporation: str
     hex: str
     centre: int
@@ -175,7 +166,6 @@ class Token:
 @dataclass
 class Board:
     """The hexes by name, in the order of the text, the homes, and pairs of a private and a hex that it blocks."""
-
     hexes: dict[str, Hex] = field(default_factory=dict)
     homes: list[Token] = field(default_factory=list)
     blocks: list[tuple[str, str]] = field(default_factory=list)
@@ -184,11 +174,41 @@ class Board:
         """The hex at a place."""
         return next((it for it in self.hexes.values() if it.place == place), None)
 
+    def add_hex(self, line: str) -> None:
+        """Adds the hex that a line spells."""
+        form = r"hex ([A-Z0-9]{1,4}) ([^ ,]+),([^ ,]+) (white|yellow|green|brown|grey|red)(?: cost=(\S*))?(?: (.*))?"
+        name, q, r, colour, cost, face = matched(form, line, "hex <name> <q>,<r> <colour> [cost=N] <tile>")
+        place = Place(number_of(q, -50, 50), number_of(r, -50, 50))
+        added = Hex(name, place, Colour(colour), 0 if cost is None else number_of(cost, 0, 500), face_of(face))
+        if added.colour is not Colour.RED and any(it.kind is CentreKind.OFF_BOARD for it in added.face.centres):
+            raise ValueError("an off-board area stands in red hexes alone")
+        if name in self.hexes or self.at(place):
+            raise ValueError(f"another hex has the name {name} or the place {q},{r}")
+        self.hexes[name] = added
+
+    def add_home(self, line: str) -> None:
+        """Adds the home that a line spells."""
+        corporation, name, number = matched(r"home (\S+) (\S+) (\S+)", line, "home <corporation> <hex> <centre>")
+        if corporation not in CORPORATIONS or name not in self.hexes or corporation in {it.corporation for it in self.homes}:
+            raise ValueError(f"{corporation} is no corporation or has a home already, or {name} is no hex of the lines above")
+        centres = self.hexes[name].face.centres
+        home = Token(corporation, name, number_of(number, 1, max(1, len(centres))))
+        slots = centres[home.centre - 1].slots if centres else None
+        if sum((it.hex, it.centre) == (name, home.centre) for it in self.homes) >= (slots or 0):
+            raise ValueError(f"centre {number} of {name} is no city, or has no slot left for a home")
+        self.homes.append(home)
+
+    def add_block(self, line: str) -> None:
+        """Adds the block that a line spells."""
+        private, name = matched(r"block (\S+) (\S+)", line, "hex ..`, `home ..` or `block <private> <hex>")
+        if private not in PRIVATES or name not in self.hexes:
+            raise ValueError(f"{private} is no private, or {name} is no hex of the lines above")
+        self.blocks.append((private, name))
+
 
 @dataclass(frozen=True)
 class Cell:
     """A cell of the chart, with its price in dollars."""
-
     price: int
     mark: Mark
 
@@ -200,7 +220,6 @@ Chart = tuple[tuple[Cell | None, ...], ...]
 @dataclass(frozen=True)
 class Roster:
     """The numbers of the roster by the names of privates, corporations and kinds of train. Faces, incomes and prices are dollars."""
-
     faces: dict[str, int]
     incomes: dict[str, int]
     tokens: dict[str, int]
@@ -213,7 +232,6 @@ class Roster:
 @dataclass(frozen=True)
 class Kit:
     """What a file's tables are played with. The tiles stand by their number."""
-
     chart: Chart
     roster: Roster
     tiles: dict[int, Tile]
@@ -264,60 +282,25 @@ def read_roster(data: bytes) -> Roster:
 def read_tiles(data: bytes) -> dict[int, Tile]:
     """The tiles of a text, by their number."""
     tiles: dict[int, Tile] = {}
-    read_lines("tiles", data, partial(add_tile, tiles))
+
+    def add(line: str) -> None:
+        colour, number, count, face = matched(r"(yellow|green|brown) (\S+) x(\S+)(?: (.*))?", line, "<colour> <number> x<count> <tile>")
+        tile = Tile(Colour(colour), number_of(number, 1, 999), number_of(count, 1, 50), face_of(face))
+        if tile.number in tiles or any(it.kind is CentreKind.OFF_BOARD for it in tile.face.centres):
+            raise ValueError(f"tile {number} stands twice, or has an off-board area")
+        tiles[tile.number] = tile
+    read_lines("tiles", data, add)
     return tiles
-
-
-def add_tile(tiles: dict[int, Tile], line: str) -> None:
-    """Adds the tile that a line spells."""
-    colour, number, count, face = matched(r"(yellow|green|brown) (\S+) x(\S+)(?: (.*))?", line, "<colour> <number> x<count> <tile>")
-    tile = Tile(Colour(colour), number_of(number, 1, 999), number_of(count, 1, 50), face_of(face))
-    if tile.number in tiles or any(it.kind is CentreKind.OFF_BOARD for it in tile.face.centres):
-        raise ValueError(f"tile {number} stands twice, or has an off-board area")
-    tiles[tile.number] = tile
 
 
 def read_board(data: bytes) -> Board:
     """The board of a text."""
-    board, adders = Board(), {"hex": add_hex, "home": add_home}
-    read_lines("board", data, lambda line: adders.get(line.split(" ")[0], add_block)(board, line))
+    board = Board()
+    adders = {"hex": board.add_hex, "home": board.add_home}
+    read_lines("board", data, lambda line: adders.get(line.split(" ")[0], board.add_block)(line))
     if not board.hexes:
         raise KitError("board", 0, "it has no hex")
     return board
-
-
-def add_hex(board: Board, line: str) -> None:
-    """Adds the hex that a line spells."""
-    form = r"hex ([A-Z0-9]{1,4}) ([^ ,]+),([^ ,]+) (white|yellow|green|brown|grey|red)(?: cost=(\S*))?(?: (.*))?"
-    name, q, r, colour, cost, face = matched(form, line, "hex <name> <q>,<r> <colour> [cost=N] <tile>")
-    place = Place(number_of(q, -50, 50), number_of(r, -50, 50))
-    added = Hex(name, place, Colour(colour), 0 if cost is None else number_of(cost, 0, 500), face_of(face))
-    if added.colour is not Colour.RED and any(it.kind is CentreKind.OFF_BOARD for it in added.face.centres):
-        raise ValueError("an off-board area stands in red hexes alone")
-    if name in board.hexes or board.at(place):
-        raise ValueError(f"another hex has the name {name} or the place {q},{r}")
-    board.hexes[name] = added
-
-
-def add_home(board: Board, line: str) -> None:
-    """Adds the home that a line spells."""
-    corporation, name, number = matched(r"home (\S+) (\S+) (\S+)", line, "home <corporation> <hex> <centre>")
-    if corporation not in CORPORATIONS or name not in board.hexes or corporation in {it.corporation for it in board.homes}:
-        raise ValueError(f"{corporation} is no corporation or has a home already, or {name} is no hex of the lines above")
-    centres = board.hexes[name].face.centres
-    home = Token(corporation, name, number_of(number, 1, max(1, len(centres))))
-    slots = centres[home.centre - 1].slots if centres else None
-    if sum((it.hex, it.centre) == (name, home.centre) for it in board.homes) >= (slots or 0):
-        raise ValueError(f"centre {number} of {name} is no city, or has no slot left for a home")
-    board.homes.append(home)
-
-
-def add_block(board: Board, line: str) -> None:
-    """Adds the block that a line spells."""
-    private, name = matched(r"block (\S+) (\S+)", line, "hex ..`, `home ..` or `block <private> <hex>")
-    if private not in PRIVATES or name not in board.hexes:
-        raise ValueError(f"{private} is no private, or {name} is no hex of the lines above")
-    board.blocks.append((private, name))
 
 
 def matched(form: str, line: str, shown: str) -> tuple[str, ...]:

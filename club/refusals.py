@@ -1,14 +1,13 @@
 """Why a line was refused, in a sentence for a person. What the sentence needs to know it asks the program."""
-from __future__ import annotations
-
 import difflib
 import re
+import sys
 from collections.abc import Callable, Iterator
 from dataclasses import dataclass
 from pathlib import Path
 
-from club.client import Refused, Reply
-from club.kit import CORPORATIONS, PRIVATES
+from club.client import Ended, Held, Refused, Reply
+from club.kit import CORPORATIONS, PRIVATES, TRAIN_LIMITS, KitError
 
 # The words of each command after stamp and table, and those of each query. A last word with `..` may be repeated.
 COMMANDS = [it.split(" ") for it in (
@@ -49,7 +48,6 @@ Ask = Callable[[str], list[str]]
 @dataclass(frozen=True)
 class Case:
     """A line that was refused: its table, its own words (four at least, empty if they lack), and the reply's last word."""
-
     table: str
     words: list[str]
     last: str
@@ -61,6 +59,82 @@ class Case:
             return self.ask(" ".join((query, self.table, *words)))
         except Refused:
             return []
+
+    def no_such_name(self) -> str:
+        if strangers := [it for it in self.words[1:] if re.fullmatch(PLAYER, it) and not self.answer("cash", it)]:
+            return f"Nobody at the table is called {strangers[0]}."
+        return f"The board has no hex {self.words[2]}" + (f", or the kit no tile {self.words[3]}." if self.words[0] == "lay" else ".")
+
+    def too_little_cash(self) -> str:
+        what = "and its president too little to add what lacks" if self.words[0] == "force" else "which is too little"
+        return f"{self.words[1]} has {self.answer('cash', self.words[1])[0]}, {what}."
+
+    def not_your_turn(self) -> str:
+        who, step = self.answer("due")
+        is_president_wrong = who == self.words[1] or self.words[0] in ("raise", "bankrupt")
+        return f"{who} is due ({step})" + (", but a president is named wrongly." if is_president_wrong else ".")
+
+    def wrong_step(self) -> str:
+        (who, step), verb = self.answer("due"), self.words[0]
+        if verb == "drop":
+            return "No corporation has too many trains."
+        if (verb, step) == ("force", "train"):
+            return f"{who} needs no help: it has a train, no route, or the money, or no train is on sale."
+        if (verb, step) == ("pay", "pay"):
+            return f"Nothing was earned: `hold {who}`."
+        if verb in ("bid", "pass") and verb in STEPS[step]:
+            return f"The private costs nothing now: `buy {who}`."
+        return f"{who} is due ({step}): {', '.join(choices([who, step]))}."
+
+    def must_discard(self) -> str:
+        most = TRAIN_LIMITS[self.answer("phase")[0]]
+        over = [it for it in self.answer("order") if len(self.answer("trains", it)) > most]
+        return f"{' and '.join(over)} may have {most} trains. First one is given up: `drop {over[0]} KIND`."
+
+    def reasons(self) -> Iterator[str]:
+        """Of the reasons for 22 those that hold, and at last the one that no query tells."""
+        verb, actor, name, last, *_ = self.words
+        asked, due, price = self.answer("asked"), self.answer("due"), self.answer("price", name)
+        if verb == "bid":
+            if due[1] == "raise":
+                yield f"Only {asked[0]} is bid on now."
+            yield f"{name} is the cheapest, which isn't bid on: `buy {actor}`." if asked[0] == name else f"{name} is sold."
+        elif verb == "private":
+            yield "A corporation can't buy the B&O private." if name == "B&O" else f"No player holds {name}."
+        elif verb == "swap":
+            yield f"The {name} has no 10% of NYC." if "M&H" in self.answer("privates", actor) else f"{actor} doesn't hold the M&H."
+        elif verb == "par":
+            yield "The B&O's par is due." if due[1] == "par" else f"The president's certificate of {name} isn't on offer."
+        if not price:
+            yield f"{name} has no par yet."
+        if verb == "buy":
+            yield f"The {last} has no 10% of {name}."
+        held = int(self.answer("holds", actor, name)[0])
+        if last == "0" or held < 10 * int(last):
+            yield f"{actor} holds {held}% of {name}, and sells at least 10%."
+        yield f"{actor} is president of {name}, and keeps 20% unless another player has 20%."
+
+    def stale(self) -> str:
+        if self.words[0] == "open":
+            return "A table is opened with the stamp 0." if self.last == "0" else f"There is a table {self.table} already."
+        return f"{self.table} has the stamp {self.last}: the line was taken before, or was written at another moment."
+
+    def not_on_sale(self) -> str:
+        _, actor, name, seller, *_ = self.words
+        return {"private": "Corporations buy privates from the first 3 until the first 5.", "drop": f"{actor} has no train {name}.",
+                "trade": f"{actor} hands in a 4, 5 or 6 that it has, once diesels are on sale.",
+                "train": f"The {seller} has no train {name}, or it isn't sold yet."}[self.words[0]]
+
+
+def status_of(name: str, work: Callable[[], int]) -> int:
+    """The status of a command's work: 2 if it can't be done, which is said on the standard error."""
+    try:
+        return work()
+    except Refused as why:
+        print(f"{name}: {why}: {explain('tables', why.reply, lambda _: [])}", file=sys.stderr)
+    except (Ended, Held, KitError, OSError) as why:
+        print(f"{name}: {why}", file=sys.stderr)
+    return 2
 
 
 def explain(line: str, reply: Reply, ask: Ask) -> str:
@@ -81,10 +155,11 @@ def sentence(cell: str) -> str:
     return f"{text[0].upper()}{text[1:]}".rstrip(".") + "."
 
 
-def rows_under(heading: str) -> list[tuple[str, str]]:
-    """The rows of the tables under a heading of docs/REFERENCE.md, two cells each, without those whose first cell is empty."""
-    section = REFERENCE.read_text().partition(f"\n{heading}\n")[2]
-    return re.findall(r"(?m)^\| `?([^|`]+)`? \| (.*) \|$", re.split(r"(?m)^## ", section)[0])
+def rows_under(heading: str, document: Path = REFERENCE) -> list[tuple[str, str]]:
+    """The rows of the tables under a heading of a document, two cells each, without those whose first cell is empty."""
+    section = document.read_text().partition(f"\n{heading}\n")[2]
+    rows = re.findall(r"(?m)^\| ([^|]*[^| ]) \| (.*) \|$", re.split(r"(?m)^## ", section)[0])
+    return [(first.replace("`", ""), second) for first, second in rows]
 
 
 def choices(due: list[str]) -> list[str]:
@@ -92,7 +167,8 @@ def choices(due: list[str]) -> list[str]:
     who, step = due[0], due[-1]
     other_buy = ["buy", "PLAYER"] if step == "stock" else ["buy", "PLAYER", "CORPORATION", "offer|pool"]
     kind = "CORPORATION" if who in CORPORATIONS else "PLAYER"
-    return [" ".join(it).replace(kind, who, 1) for it in COMMANDS if it[0] in STEPS[step].split(" ") and it != other_buy]
+    fit = [it for it in COMMANDS if it[0] in STEPS[step].split(" ") and it != other_buy]
+    return [" ".join([verb, who if actor == kind else actor, *rest]) for verb, actor, *rest in fit]
 
 
 def misfit(line: str) -> str:
@@ -129,84 +205,11 @@ def kinds(part: str) -> list[tuple[str, str]]:
     return [WORDS.get(it, (NUMBER, "a number") if it.isupper() else (it, it)) for it in part.removesuffix("..").split("|")]
 
 
-def no_such_name(case: Case) -> str:
-    if strangers := [it for it in case.words[1:] if re.fullmatch(PLAYER, it) and not case.answer("cash", it)]:
-        return f"Nobody at the table is called {strangers[0]}."
-    return f"The board has no hex {case.words[2]}" + (f", or the kit no tile {case.words[3]}." if case.words[0] == "lay" else ".")
-
-
-def too_little_cash(case: Case) -> str:
-    what = "and its president too little to add what lacks" if case.words[0] == "force" else "which is too little"
-    return f"{case.words[1]} has {case.answer('cash', case.words[1])[0]}, {what}."
-
-
-def not_your_turn(case: Case) -> str:
-    who, step = case.answer("due")
-    is_president_wrong = who == case.words[1] or case.words[0] in ("raise", "bankrupt")
-    return f"{who} is due ({step})" + (", but a president is named wrongly." if is_president_wrong else ".")
-
-
-def wrong_step(case: Case) -> str:
-    (who, step), verb = case.answer("due"), case.words[0]
-    if verb == "drop":
-        return "No corporation has too many trains."
-    if (verb, step) == ("force", "train"):
-        return f"{who} needs no help: it has a train, no route, or the money, or no train is on sale."
-    if (verb, step) == ("pay", "pay"):
-        return f"Nothing was earned: `hold {who}`."
-    if verb in ("bid", "pass") and verb in STEPS[step]:
-        return f"The private costs nothing now: `buy {who}`."
-    return f"{who} is due ({step}): {', '.join(choices([who, step]))}."
-
-
-def must_discard(case: Case) -> str:
-    most = {"2": 4, "3": 4, "4": 3}.get(case.answer("phase")[0], 2)
-    over = [it for it in case.answer("order") if len(case.answer("trains", it)) > most]
-    return f"{' and '.join(over)} may have {most} trains. First one is given up: `drop {over[0]} KIND`."
-
-
-def reasons(case: Case) -> Iterator[str]:
-    """Of the reasons for 22 those that hold, and at last the one that no query tells."""
-    verb, actor, name, last, *_ = case.words
-    asked, due, price = case.answer("asked"), case.answer("due"), case.answer("price", name)
-    if verb == "bid":
-        if due[1] == "raise":
-            yield f"Only {asked[0]} is bid on now."
-        yield f"{name} is the cheapest, which isn't bid on: `buy {actor}`." if asked[0] == name else f"{name} is sold."
-    elif verb == "private":
-        yield "A corporation can't buy the B&O private." if name == "B&O" else f"No player holds {name}."
-    elif verb == "swap":
-        yield f"The {name} has no 10% of NYC." if "M&H" in case.answer("privates", actor) else f"{actor} doesn't hold the M&H."
-    elif verb == "par":
-        yield "The B&O's par is due." if due[1] == "par" else f"The president's certificate of {name} isn't on offer."
-    if not price:
-        yield f"{name} has no par yet."
-    if verb == "buy":
-        yield f"The {last} has no 10% of {name}."
-    held = int(case.answer("holds", actor, name)[0])
-    if last == "0" or held < 10 * int(last):
-        yield f"{actor} holds {held}% of {name}, and sells at least 10%."
-    yield f"{actor} is president of {name}, and keeps 20% unless another player has 20%."
-
-
-def stale(case: Case) -> str:
-    if case.words[0] == "open":
-        return "A table is opened with the stamp 0." if case.last == "0" else f"There is a table {case.table} already."
-    return f"{case.table} has the stamp {case.last}: the line was taken before, or was written at another moment."
-
-
-def not_on_sale(case: Case) -> str:
-    _, actor, name, seller, *_ = case.words
-    return {"private": "Corporations buy privates from the first 3 until the first 5.", "drop": f"{actor} has no train {name}.",
-            "trade": f"{actor} hands in a 4, 5 or 6 that it has, once diesels are on sale.",
-            "train": f"The {seller} has no train {name}, or it isn't sold yet."}[case.words[0]]
-
-
 # The refusals of which more is known than docs/REFERENCE.md says, by their number.
 SENTENCES: dict[int | None, Callable[[Case], str]] = {
-    1: no_such_name, 2: too_little_cash, 20: not_your_turn, 42: wrong_step, 44: not_on_sale, 46: must_discard, 52: stale,
+    1: Case.no_such_name, 2: Case.too_little_cash, 20: Case.not_your_turn, 42: Case.wrong_step, 44: Case.not_on_sale, 46: Case.must_discard, 52: Case.stale,
     21: lambda case: f"The bid must be at least {case.last}.",
-    22: lambda case: next(reasons(case)),
+    22: lambda case: next(case.reasons()),
     39: lambda case: f"At the first wrong word: {sentence(dict(rows_under('## Runs'))[case.last])}",
     41: lambda case: f"No run was found that is surely best. Declare one: `run {case.words[1]} 2=B3-B5`. `hold` gives it up.",
     53: lambda case: "The turns that can be named are {1} to {0}.".format(*case.answer("turns")),

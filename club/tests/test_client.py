@@ -13,8 +13,7 @@ sys.path.insert(0, str(Path(__file__).resolve().parent))
 from desk import StoreTest
 
 from club import client
-from club.client import Ended, Kind, Program, Refused, Reply, find_program
-from club.locking import Held, take_lock
+from club.client import Ended, Held, Kind, Program, Refused, Reply, find_program, take_lock
 
 
 class ReplyTest(unittest.TestCase):

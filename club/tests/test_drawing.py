@@ -14,8 +14,7 @@ from desk import LARGE_BOARD, ROOT
 from club.drawing import INKS, MarketToken, board_svg, edges_svg, market_svg, page, tile_svg
 from club.geometry import APOTHEM, SIZE, between, edge_point, middle_of, radius_of, stops_on
 from club.kit import CORPORATIONS, Kit, Place, Token, face_of, read_folder, read_tiles
-from club.layout import Lay, Layout
-from club.links import links_of
+from club.layout import Lay, Layout, links_of
 
 SVG = "{http://www.w3.org/2000/svg}"
 # Faces on which there is little room: as on the tiles of 1830 with two towns or two cities, and worse.

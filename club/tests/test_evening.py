@@ -5,6 +5,7 @@ import contextlib
 import io
 import os
 import random
+import re
 import subprocess
 import sys
 import threading
@@ -16,12 +17,10 @@ from unittest import mock
 sys.path.insert(0, str(Path(__file__).resolve().parent))
 from desk import ROOT, SECONDS, StoreTest, Terminal, recorded
 
-from club import evening
-from club.client import Ended, Program, Reply
+from club.client import Ended, Program, Reply, take_lock
+from club.layout import hexes_of, links_of
 from club.evening import Evening, Mistake
 from club.kept import read_kept
-from club.links import hexes_of, links_of
-from club.locking import take_lock
 
 PLAY = str(ROOT / "club/play")
 LARGE = "operating_rounds_of_four"
@@ -84,13 +83,13 @@ class EveningTest(StoreTest):
     def log(self, store: Path) -> list[list[str]]:
         return [it.split("\t") for it in store.with_suffix(".log").read_text().splitlines()]
 
-
-class PipeTest(EveningTest):
     def play(self, store: Path, text: str, program: str | None = None) -> subprocess.CompletedProcess:
         """Plays lines that don't come from a terminal."""
         words = [PLAY, str(store), "--program", program or self.program]
         return subprocess.run(words, input=text, text=True, capture_output=True, check=False)
 
+
+class PipeTest(EveningTest):
     def frail(self, before: str = "never", after: str = "never") -> str:
         script = self.folder / "frail"
         spent = str(self.folder / "spent")
@@ -124,6 +123,12 @@ class PipeTest(EveningTest):
         shown = self.play(first, DIVIDEND).stdout
         self.assertEqual(self.play(second, f"{shown}cash g4 a   = 653\n").returncode, 0)
         self.assertEqual(self.kept(second, "g4"), self.kept(first, "g4"))
+
+    def test_a_page_for_each_table_of_an_evening(self) -> None:
+        store = self.store()
+        self.assertEqual(self.play(store, "g1 open ann bob\nbuy ann\ng2 open cat dan\nbuy cat\n").returncode, 0)
+        self.assertEqual(sorted(it.name for it in self.folder.glob("*.html")), ["g1.html", "g2.html"])
+        self.assertIn("<h2>bob is due: auction</h2>", (self.folder / "g1.html").read_text())
 
     def test_the_first_refusal_stops_an_evening(self) -> None:
         store = self.store()
@@ -211,19 +216,21 @@ class TerminalTest(EveningTest):
         self.assertIn("There is no table yet", self.say(terminal, "buy ann"))
         self.assertIn("0 g1 open ann bob              ok g1 1\ng1 1 ann auction> ", self.say(terminal, "g1 open ann bob"))
         self.assertIn("1 g1 buy ann                   ok g1 2\ng1 2 bob auction> ", self.say(terminal, "buy ann"))
+        self.assertIn("<h2>bob is due: auction</h2>", store.with_name("g1.html").read_text())
         self.assertIn("bob is due (auction).", self.say(terminal, "buy ann"))
         self.assertIn("Is it `D&H`?", self.say(terminal, "bid bob dh 75"))
         self.assertIn("The bid must be at least 75.", self.say(terminal, "bid bob D&H 70"))
         self.assertIn("2 g1 bid bob D&H 75            ok g1 3", self.say(terminal, "  bid  bob D&H 75 "))
         self.assertIn("cash g1 ann                    = 1180", self.say(terminal, "cash ann"))
         who = self.say(terminal, "who")
-        self.assertIn("ann           cash  1180  worth  1200  SV\n", who)
-        self.assertIn("g1: 2 turns, phase 2, bank 9620\nann auction: buy ann, bid ann PRIVATE DOLLARS, pass ann\n", who)
+        self.assertRegex(who, r"(?m)^ann +\$1180 +\$1200 +1 of 28 +SV$")
+        self.assertRegex(who, r"(?m)^D&H +\$70 +\$15 +offering +bob \$75$")
+        self.assertIn("2 turns have ended. It's phase 2. The bank has $9620, and owes $0.\nann is due: auction.\n  buy ann\n  bid ann", who)
         self.assertIn("The turns that can be named are 0 to 2.", self.say(terminal, "back 3"))
         self.assertIn("The tables are: g1.", self.say(terminal, "table g2"))
         self.assertIn("g2 1 cat auction> ", self.say(terminal, "g2 open cat dan"))
         self.assertIn("g1 3 ann auction> ", self.say(terminal, "table g1"))
-        self.assertIn("who              what everybody has", self.say(terminal, "help"))
+        self.assertIn("who                    what everybody has, who is due, and what can be played\n", self.say(terminal, "help"))
         self.assertIn("is in use", subprocess.run([PLAY, store], input="", text=True, capture_output=True, check=False).stderr)
         terminal.type("quit\r")
         self.assertEqual(terminal.end(), 0)
@@ -231,10 +238,11 @@ class TerminalTest(EveningTest):
 
     def test_undo_shows_what_goes_and_asks(self) -> None:
         store = self.store()
+        self.play(store, "g1 open a b")
         terminal = self.begin(store)
-        self.assertIn("Nothing was played yet.", self.say(terminal, "g1 open a b") + self.say(terminal, "undo"))
-        for line in DIVIDEND.splitlines()[1:9]:
-            self.say(terminal, line.split(" ", 2)[2])
+        self.assertIn("Nothing was played yet.", self.say(terminal, "undo"))
+        terminal.type("\r".join(it.split(" ", 2)[2] for it in DIVIDEND.splitlines()[1:9]) + "\r")
+        terminal.wait_for("g1 9 a stock> $")
         # `par a PRR 67` stands within a's turn, so it alone goes first, and then the turn that ended with the B&O's par.
         for answer, gone in (("n", ["par a PRR 67"]), ("y", ["par a PRR 67"]), ("y", ["buy b", "par b B&O 67"])):
             asked = self.say(terminal, "undo", r"\[y/n\] $")
@@ -247,9 +255,8 @@ class TerminalTest(EveningTest):
 
     def test_routes_by_the_names_of_hexes(self) -> None:
         store = self.store()
+        self.play(store, DIVIDEND)
         terminal = self.begin(store)
-        for line in DIVIDEND.splitlines():
-            self.say(terminal, line)
         self.assertIn("A     grey              1: B-city 1, PRR on city 1\n", self.say(terminal, "links A"))
         self.assertIn("C     grey              3: B-town 1, 4: D-town 1\n", self.say(terminal, "board"))
         self.assertIn("No way leads so from a centre to a centre: see `links A D`.", self.say(terminal, "run PRR 2=a-d"))
@@ -367,19 +374,27 @@ class InsideTest(EveningTest):
             made.send_rest([])
         self.assertIn("1 g1 buy a                     ok g1 2\n", said.getvalue())
 
-    def test_the_page_is_written_after_each_turn_from_a_copy(self) -> None:
-        store, page = self.store(), self.folder / "page"
-        page.write_text("import sys, shutil\nshutil.copy(sys.argv[3], sys.argv[5] + '/copy')\n"
-                        "print(*sys.argv[1:3], sys.argv[4], file=open(sys.argv[5] + '/written', 'a'))\n")
-        made = self.evening(store)
-        with mock.patch.object(evening, "PAGE", self.folder / "nothing"), contextlib.redirect_stdout(io.StringIO()):
-            made.take_all(["g1 open a b", "buy a"])
-        self.assertFalse((self.folder / "written").exists())
-        with mock.patch.object(evening, "PAGE", page), contextlib.redirect_stdout(io.StringIO()):
-            for line in ("buy b", "cash a", "buy x", "buy a", "back 0", "forget 0"):
+    def test_the_page_is_written_after_each_turn(self) -> None:
+        """Each page has the changes since the stamp of the page before. `forget` ends no turn."""
+        store = self.store()
+        made, page = self.evening(store), store.with_name("g1.html")
+        lines = ("g1 open a b", "buy a", "buy b", "cash a", "buy x", "buy a", "back 0", "forget 0")
+        for line, since in zip(lines, (0, 1, 2, None, None, 3, 4, None)):
+            page.unlink(missing_ok=True)
+            with contextlib.redirect_stdout(io.StringIO()):
                 made.take_all([line])
-        self.assertEqual((self.folder / "written").read_text(), "g1 --file -o\n" * 3)
-        self.assertEqual(self.kept(self.folder / "copy", "g1"), self.kept(store, "g1"))
+                made.write_pages()
+            shown = re.findall("Changes since the stamp ([0-9]+) are marked", page.read_text()) if page.exists() else []
+            self.assertEqual(shown, [] if since is None else [str(since)], line)
+
+    def test_an_evening_goes_on_without_its_page(self) -> None:
+        store = self.store()
+        made = self.evening(store)
+        store.with_name("g1.html").mkdir()
+        with contextlib.redirect_stdout(io.StringIO()) as said:
+            made.take_all(["g1 open a b"])
+            made.write_pages()
+        self.assertIn("The page of g1 isn't written: [Errno 21]", said.getvalue())
 
 
 if __name__ == "__main__":

@@ -43,7 +43,8 @@ class HouseTest(unittest.TestCase):
         self.assertEqual(list(bare_functions("class A:\n  def f(self, a: int, *, b: int = 1) -> None: pass")), [])
 
     def test_the_desk_stays_small(self) -> None:
-        self.assertLessEqual(sum(len(it.read_text().splitlines()) for it in sources()), MOST_LINES)
+        reader = ROOT / "tools/store_file.py"  # the desk's reader of files counts as its own
+        self.assertLessEqual(sum(len(it.read_text().splitlines()) for it in [*sources(), reader]), MOST_LINES)
 
     def test_nothing_but_the_standard_library_is_imported(self) -> None:
         import sys

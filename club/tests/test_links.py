@@ -14,8 +14,7 @@ from desk import ROOT, StoreTest, recorded
 
 from club.client import Program
 from club.kit import LATE_TRAINS, TEXTS, Kit, Place, read_board, read_folder
-from club.layout import Lay, Layout, Token
-from club.links import Hexside, Link, Node, Stop, hexes_of, hexside, links_of, routes_through
+from club.layout import Hexside, Lay, Layout, Link, Node, Stop, Token, hexes_of, hexside, links_of, routes_through
 
 # Recorded games without `back`, whose runs are many or have faults, and how many runs each has that were taken.
 GAMES = {"operating_rounds_on_six_hexes": 165, "operating_rounds_of_four": 106, "tiles_given_back": 4, "runs_and_certificates": 7}
@@ -110,8 +109,8 @@ class Documents(unittest.TestCase):
         layout = Layout(self.kit, (Lay("F", 7, 3), Lay("B", 23, 2), Lay("F", 28, 3)), (Token("PRR", "A", 1), Token("NYC", "D", 1)))
         self.assertEqual([it.number for it in links_of(layout) if it.hex == "F"], [9, 10])
         self.assertEqual((layout.tiles_left()[7], layout.tiles_left()[28], layout.tiles_left()[23]), (4, 0, 2))
-        self.assertEqual((layout.tokens_on("A", 1), layout.kept_on("A", 1)), (["PRR"], []))
-        self.assertEqual(Layout(self.kit).kept_on("D", 1), ["NYC"])
+        self.assertEqual(layout.slots("A", 1), ["PRR"])
+        self.assertEqual(Layout(self.kit).slots("D", 1), ["NYC"])
 
 
 class RecordedRuns(StoreTest):

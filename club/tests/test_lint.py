@@ -11,7 +11,7 @@ from pathlib import Path
 sys.path.insert(0, str(Path(__file__).resolve().parent))
 from desk import LARGE_BOARD, ROOT, StoreTest, recorded
 
-from club.findings import turns_on
+from club.findings import findings, turns_on
 from club.kit import TEXTS, Colour, face_of, read_folder, read_tiles
 from club.layout import Lay, Layout
 
@@ -99,8 +99,13 @@ class Lint(StoreTest):
         for fault, (changes, found) in FAULTS.items():
             with self.subTest(fault):
                 self.write_kit(changes)
-                done = self.lint(".")
-                self.assertEqual((done.stdout.splitlines(), done.stderr, done.returncode), (found or ["Nothing was found."], "", bool(found)))
+                self.assertEqual(findings(read_folder(self.folder, {})), found)
+
+    def test_what_is_found_is_printed(self) -> None:
+        for changes, found in list(FAULTS.values())[:3]:
+            self.write_kit(changes)
+            done = self.lint(".")
+            self.assertEqual((done.stdout.splitlines(), done.stderr, done.returncode), (found or ["Nothing was found."], "", bool(found)))
 
     def test_the_program_takes_these_kits(self) -> None:
         for fault, (changes, _) in FAULTS.items():

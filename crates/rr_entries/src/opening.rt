@@ -16,9 +16,9 @@ use rr_roster::Roster;
 use rr_words::Name;
 use std::alloc::Global;
 
-/// The entries with which a table of these players opens, oldest first: each player gets the starting
-/// money, all certificates and trains are offered, and the auction begins. `players` are the names in
-/// seating order.
+/// The entries with which a table of these players opens, oldest first: each player gets the
+/// starting money, all certificates and trains are offered, and the auction begins. `players` are
+/// the names in seating order.
 ///
 /// # Errors
 ///
