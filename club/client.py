@@ -3,6 +3,7 @@ from __future__ import annotations
 
 import fcntl
 import os
+import select
 import shutil
 import subprocess
 import time
@@ -91,6 +92,9 @@ class Program:
         with suppress(BrokenPipeError):  # it has ended; why may still be there to read
             self.serving.stdin.write(words + "\n")
             self.serving.stdin.flush()
+        # It wakes up each second, since a Ctrl-C that comes just before the reading would go unnoticed.
+        while not select.select([self.serving.stdout], [], [], 1)[0]:
+            pass
         text = self.serving.stdout.readline()
         if not text.endswith("\n"):
             raise Ended(f"moderate ended with the status {self.stop()}")
