@@ -9,7 +9,7 @@ from dataclasses import dataclass, field
 
 import game_bytes
 from game_bytes import is_player
-from store_file import FIRST_DATA, PAGE, SLOTS, USED, number_at, record_at, records_from, root_at, slots_for
+from store_file import FIRST_DATA, MOST_SLOTS, PAGE, SLOTS, USED, number_at, record_at, records_from, root_at, slots_for
 
 NOT_A_STORE = "no 64 not a store"
 LAST_NUMBER, LAST_STAMP = 2**63 - 1, 4_000_000_000
@@ -252,11 +252,11 @@ def played(entry, commands):
 
 
 def records_in(data, half, number):
-    """The bytes of the records of a half from slot 0 on, of this number and one more each; the last is None where it has
-    no bytes, or runs on where no record may."""
+    """The bytes of the records of a half from slot 0 on, of this number and one more each; the last is None if it has
+    no bytes, takes too many slots, or runs on where no record may."""
     found = []
     for slot, length in records_from(data, half, number):
-        if length == 0 or slot + slots_for(length) > SLOTS:
+        if length == 0 or slots_for(length) > MOST_SLOTS or slot + slots_for(length) > SLOTS:
             return [*found, None]
         found.append(record_at(data, half, slot, length))
     return found

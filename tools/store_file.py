@@ -3,8 +3,8 @@ from dataclasses import dataclass, field
 
 PAGE, OPEN, SHUT = 4096, 0xA5, 0
 FIRST_DATA, USED = 514, 4086
-# The first page of each half of the journal, and how many of its slots hold records.
-HALVES, SLOTS = (2, 258), 255
+# The first page of each half of the journal, how many of its slots hold records, and how many a record takes at most.
+HALVES, SLOTS, MOST_SLOTS = (2, 258), 255, 8
 
 
 @dataclass

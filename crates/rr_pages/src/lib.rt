@@ -7,7 +7,7 @@
 //!   current. Writes make exactly their device calls, in order, and none after one that failed.
 //! - On an honest disk, during `Half::append` each image has the records from before, or those and the new one whole;
 //!   after success the latter. A half is refused as full exactly if its slots don't suffice, or the record is longer
-//!   than two.
+//!   than eight.
 #![tactic(auto)]
 
 mod chain;
