@@ -5,6 +5,7 @@ ghost use Rattle.std.specs.Prelude.{◌≡◌, ℕ, ◌≤◌, true, slice_index
 
 use anyhow::Result;
 use rr_checker::{CentreLimit, Link, Net, Node};
+use rr_routes::MOST_NODES;
 use rr_search::{Fault, best};
 use std::alloc::{AllocError, Global};
 use std::env;
@@ -206,7 +207,7 @@ fn outcome(alloc: Global, net: &Net) -> &'static str {
     if !are_small(net.values()) || net.values().len() > 65536 || net.trains().len() > 1000 {
         return "refused";
     }
-    match best(alloc, net, 1024) {
+    match best(alloc, net, MOST_NODES) {
         Ok(_) => "certified",
         Err(Fault::NoCertificate) => "none",
         Err(Fault::OutOfMemory) => "memory",

@@ -1,7 +1,7 @@
 -- Going along links from a node on finds the only path over all of them.
-use Rattle.std.proofs.Common.{◌≡◌, ℕ, ◌+◌, ◌<◌, ◌≤◌, ◌⊎◌, ◌==◌, ◌&&◌, not, Bool, true, false, List, [], ◌∷◌, ◌++◌, length, get_or, refl, sym, ◌∙◌, ap, subst, inl, inr, arith, append_assoc, append-nil}
+use Rattle.std.proofs.Common.{◌≡◌, ℕ, ◌+◌, ◌<◌, ◌≤◌, ◌⊎◌, ◌&&◌, not, Bool, true, false, List, [], ◌∷◌, ◌++◌, length, get_or, refl, sym, ◌∙◌, ap, subst, inl, inr, arith, append_assoc, append-nil}
 use Rattle.std.specs.Bool.{Decides}
-use Rattle.std.specs.List.{Contains, list_any, slice_get}
+use Rattle.std.specs.List.{Contains, slice_get}
 use Rattle.std.proofs.lemmas.Bool.{cases_eq}
 use Rattle.std.proofs.lemmas.Bool.Decides.{Decides-not, Decides-and}
 use Rattle.std.proofs.lemmas.List.{length-append, get_or_default}
@@ -13,9 +13,11 @@ use Rattle.rr_routes.specs.Routes.{Walk, one_link, goes_on, NoneTwice, Path}
 use Rattle.rr_routes.proofs.Elements.{Contains-here, Contains-there, Contains-cases, Contains-nil, length_within}
 use Rattle.rr_routes.proofs.Walks.{Joins-at_from, Walk-touched, only_first}
 use Rattle.rr_checker.specs.Steps.{same_node}
+use Rattle.rr_checker.specs.Index.{IsNoted, is_noted}
 use Rattle.rr_checker.specs.Own.{touches}
 use Rattle.rr_checker.specs.Trips.{far, far_end, SameElements, IsOnlyWay}
-use Rattle.rr_checker.proofs.StepLemmas.{yes, no, Decides-same_node, Decides-among}
+use Rattle.rr_checker.proofs.IndexLemmas.{Decides-is_noted}
+use Rattle.rr_checker.proofs.StepLemmas.{yes, no, Decides-same_node}
 use Rattle.rr_checker.proofs.OwnLemmas.{Decides-touches}
 
 Contains-left : (xs ys : List ℕ) (x : ℕ) → Contains xs x → Contains (xs ++ ys) x
@@ -173,34 +175,33 @@ module _ (net : Net) where
       omega (arith, few, most, length-append links (first ∷ tail), ap (λ (xs : List ℕ). length xs) e))
 
 -- the test for the next link
-pub Decides-is_next : (net : Net) (taken : List ℕ) (at : Node) (link : ℕ)
-    → Decides (touches net link at && not (list_any (λ other. other == link) taken)) (Touches net link at × (Contains taken link → ⊥))
+pub Decides-is_next : (net : Net) (taken : List (List ℕ)) (at : Node) (link : ℕ)
+    → Decides (touches net link at && not (is_noted taken link)) (Touches net link at × (IsNoted taken link → ⊥))
 Decides-is_next net taken at link =
-    Decides-and (touches net link at) (not (list_any (λ other. other == link) taken)) (Decides-touches net link at)
-    (Decides-not (list_any (λ other. other == link) taken) (Decides-among taken link))
+    Decides-and (touches net link at) (not (is_noted taken link)) (Decides-touches net link at) (Decides-not (is_noted taken link) (Decides-is_noted taken link))
 
 -- none of the links is next
-pub none_next : (net : Net) (own taken : List ℕ) (at : Node)
-    → ((k : ℕ) → k < length own → (touches net (get_or own k 0) at && not (list_any (λ other. other == get_or own k 0) taken)) ≡ false)
-    → (link : ℕ) → Contains own link → Touches net link at → Contains taken link
-none_next net own taken at fails link c touching = among (list_any (λ other. other == link) taken) refl
+pub none_next : (net : Net) (own : List ℕ) (taken : List (List ℕ)) (at : Node)
+    → ((k : ℕ) → k < length own → (touches net (get_or own k 0) at && not (is_noted taken (get_or own k 0))) ≡ false)
+    → (link : ℕ) → Contains own link → Touches net link at → IsNoted taken link
+none_next net own taken at fails link c touching = among (is_noted taken link) refl
   where
-    failed : (touches net link at && not (list_any (λ other. other == link) taken)) ≡ false
+    failed : (touches net link at && not (is_noted taken link)) ≡ false
     failed =
         let here : get_or own c.0 0 ≡ link = get_or_default own c.0 0 link c.1 ∙ c.2 in
-        subst (λ l. (touches net l at && not (list_any (λ other. other == l) taken)) ≡ false) here (fails c.0 c.1)
+        subst (λ l. (touches net l at && not (is_noted taken l)) ≡ false) here (fails c.0 c.1)
 
-    among : (b : Bool) → list_any (λ other. other == link) taken ≡ b → Contains taken link
-    among true e = yes (Decides-among taken link) e
-    among false e = absurd (no (Decides-is_next net taken at link) failed (touching, no (Decides-among taken link) e))
+    among : (b : Bool) → is_noted taken link ≡ b → IsNoted taken link
+    among true e = yes (Decides-is_noted taken link) e
+    among false e = absurd (no (Decides-is_next net taken at link) failed (touching, no (Decides-is_noted taken link) e))
 
 -- no link so far is next
-pub none_so_far : (net : Net) (own taken : List ℕ) (at : Node) (i : ℕ)
-    → ((k : ℕ) → k < i → (touches net (get_or own k 0) at && not (list_any (λ other. other == get_or own k 0) taken)) ≡ false)
-    → (touches net (get_or own i 0) at && not (list_any (λ other. other == get_or own i 0) taken)) ≡ false
-    → (k : ℕ) → k < i + 1 → (touches net (get_or own k 0) at && not (list_any (λ other. other == get_or own k 0) taken)) ≡ false
+pub none_so_far : (net : Net) (own : List ℕ) (taken : List (List ℕ)) (at : Node) (i : ℕ)
+    → ((k : ℕ) → k < i → (touches net (get_or own k 0) at && not (is_noted taken (get_or own k 0))) ≡ false)
+    → (touches net (get_or own i 0) at && not (is_noted taken (get_or own i 0))) ≡ false
+    → (k : ℕ) → k < i + 1 → (touches net (get_or own k 0) at && not (is_noted taken (get_or own k 0))) ≡ false
 none_so_far net own taken at i before here k less =
     elim (cases_eq k i) [
-      | inl same ↦ subst (λ j. (touches net (get_or own j 0) at && not (list_any (λ other. other == get_or own j 0) taken)) ≡ false) (sym same) here
+      | inl same ↦ subst (λ j. (touches net (get_or own j 0) at && not (is_noted taken (get_or own j 0))) ≡ false) (sym same) here
       | inr differ ↦ before k (omega arith)
     ]

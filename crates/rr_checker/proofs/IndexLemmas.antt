@@ -1,5 +1,6 @@
 -- Links by the keys of the nodes that they touch.
-use Rattle.std.proofs.Common.{◌≡◌, ℕ, ◌+◌, ◌<◌, ◌≤◌, ◌⊎◌, Option, None, Some, List, [], ◌∷◌, ◌++◌, length, get_or, take, refl, sym, ◌∙◌, ap, subst, inl, inr}
+use Rattle.std.proofs.Common.{◌≡◌, ◌↔◌, ℕ, ◌+◌, ◌<◌, ◌≤◌, ◌⊎◌, Option, None, Some, List, [], ◌∷◌, ◌++◌, length, get_or, take, refl, sym, ◌∙◌, ap, subst, inl, inr}
+use Rattle.std.specs.Bool.{Decides}
 use Rattle.std.specs.List.{Contains, slice_get}
 use Rattle.std.proofs.lemmas.List.{take_all, take_more}
 use Rattle.std.proofs.lemmas.List.Elements.{Contains-push, Contains-push_cases, Contains-append_left}
@@ -7,11 +8,37 @@ use Rattle.rr_routes.specs.declared.net.Link.{Link}
 use Rattle.rr_routes.specs.declared.net.Node.{Node}
 use Rattle.rr_routes.specs.declared.net.Node.TheVariants.{Hexside}
 use Rattle.rr_routes.specs.Net.{Net, LinkAt, Touches}
-use Rattle.rr_routes.specs.Reachability.Index.{IsIndexOf, noted, nothing_noted}
+use Rattle.rr_routes.specs.Reachability.Index.{IsIndexOf, noted, noted_at as noted_at_key, nothing_noted}
 use Rattle.rr_routes.proofs.Elements.{Contains-nil}
 use Rattle.rr_routes.proofs.ReachabilityLemmas.IndexLemmas.{AlsoAt, Nowhere, index_noted, index_nothing, index_same}
 use Rattle.rr_routes.proofs.Walks.{LinkAt-same}
-use Rattle.rr_checker.specs.Index.{TouchesAt, node_key, noted_at, noted_at_ends}
+use Rattle.rr_checker.specs.Index.{IsNoted, IsOneOf, TouchesAt, is_noted, node_key, noted_at, noted_at_ends}
+use Rattle.rr_checker.proofs.StepLemmas.{Decides-among}
+
+-- no number is noted
+pub numbers_first : (count : ℕ) (index : List (List ℕ)) → index ≡ nothing_noted count → IsIndexOf (IsOneOf []) index
+numbers_first count index e =
+    index_same Nowhere (IsOneOf []) index (λ key n none. absurd none) (λ key n d. absurd (Contains-nil n d.0)) (index_nothing count index e)
+
+-- one number more, at itself
+module _ (numbers : List ℕ) (index : List (List ℕ)) (x : ℕ) where
+  is_one : (key n : ℕ) → AlsoAt (IsOneOf numbers) x x key n → IsOneOf (numbers ++ x ∷ []) key n
+  is_one key n (inl d) = (Contains-append_left numbers (x ∷ []) n d.0, d.1)
+  is_one key n (inr e) = (subst (λ m. Contains (numbers ++ x ∷ []) m) e.1 (Contains-push numbers x), sym e.0 ∙ e.1)
+
+  is_also : (key n : ℕ) → IsOneOf (numbers ++ x ∷ []) key n → AlsoAt (IsOneOf numbers) x x key n
+  is_also key n d = elim (Contains-push_cases numbers x n d.0) [ inl old ↦ inl (old, d.1) | inr is ↦ inr (is ∙ sym d.1, is) ]
+
+  pub numbers_next : IsIndexOf (IsOneOf numbers) index → IsIndexOf (IsOneOf (numbers ++ x ∷ [])) (noted index x x)
+  numbers_next ix =
+      index_same (AlsoAt (IsOneOf numbers) x x) (IsOneOf (numbers ++ x ∷ [])) (noted index x x) is_one is_also (index_noted (IsOneOf numbers) index x x ix)
+
+-- just these numbers are noted
+pub noted_numbers : (numbers : List ℕ) (index : List (List ℕ)) → IsIndexOf (IsOneOf numbers) index → (number : ℕ) → IsNoted index number ↔ Contains numbers number
+noted_numbers numbers index ix number = (λ there. (ix.sound number number there).1.0, λ c. ix.complete number number (c, refl))
+
+pub Decides-is_noted : (index : List (List ℕ)) (number : ℕ) → Decides (is_noted index number) (IsNoted index number)
+Decides-is_noted index number = Decides-among (noted_at_key index number) number
 
 module _ (net : Net) where
   -- no link is noted

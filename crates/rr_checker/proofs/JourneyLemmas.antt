@@ -1,9 +1,9 @@
 -- Trips over just the links of a train.
-use Rattle.std.proofs.Common.{◌≡◌, ◌≢◌, ℕ, ◌+◌, ◌<◌, ◌==◌, ◌&&◌, not, true, false, Option, None, Some, Result, Ok, Err, List, [], ◌∷◌, length, get_or, refl, sym, ◌∙◌, ap, subst, inl, inr, arith}
+use Rattle.std.proofs.Common.{◌≡◌, ◌≢◌, ◌↔◌, ℕ, ◌+◌, ◌<◌, ◌==◌, ◌&&◌, not, true, false, Option, None, Some, Result, Ok, Err, List, [], ◌∷◌, length, get_or, refl, sym, ◌∙◌, ap, subst, inl, inr, arith}
 use Rattle.std.specs.Bool.{Decides}
 use Rattle.std.specs.Option.{MatchOption}
 use Rattle.std.specs.Result.{IfOk}
-use Rattle.std.specs.List.{Contains, list_any, slice_get}
+use Rattle.std.specs.List.{Contains, slice_get}
 use Rattle.std.proofs.lemmas.Bool.{cases_eq}
 use Rattle.std.proofs.lemmas.Bool.Decides.{Decides-and, Decides-eqb, Decides-not}
 use Rattle.std.proofs.lemmas.List.{get_or_default}
@@ -14,25 +14,33 @@ use Rattle.rr_routes.specs.Net.{Net, Joins, IsCentre, Touches}
 use Rattle.rr_routes.specs.Routes.{Walk, one_link, goes_on, Path, Trip, Route, EndsAreCentres}
 use Rattle.rr_routes.proofs.Elements.{Contains-here, Contains-nil, contained}
 use Rattle.rr_routes.proofs.Walks.{only_first, two_at_most}
+use Rattle.rr_checker.specs.Index.{IsNoted, is_noted}
 use Rattle.rr_checker.specs.Own.{is_crowded, touches}
 use Rattle.rr_checker.specs.Trips.{IsOnlyWay, IsTripOver, NoneFrom, NoneAt, centre_of, centre_at, is_missing, meets_another, trip_over}
-use Rattle.rr_checker.proofs.StepLemmas.{yes, no, Decides-list_any, Decides-among}
+use Rattle.rr_checker.proofs.IndexLemmas.{Decides-is_noted}
+use Rattle.rr_checker.proofs.StepLemmas.{yes, no, Decides-list_any}
 use Rattle.rr_checker.proofs.OwnLemmas.{Decides-is_crowded, Decides-touches, crowd_of}
 
+-- these links are noted, and no others
+abbrev pub AreNoted : List (List ℕ) → List ℕ → Type 0
+AreNoted index links = (link : ℕ) → IsNoted index link ↔ Contains links link
+
+Decides-is_missing : (own : List ℕ) (index : List (List ℕ)) → Decides (is_missing own index) ((link : ℕ) × Contains own link × (IsNoted index link → ⊥))
+Decides-is_missing own index =
+    Decides-list_any (λ link. not (is_noted index link)) (λ link. IsNoted index link → ⊥) own (λ link c. Decides-not (is_noted index link) (Decides-is_noted index link))
+
 -- nothing is missing
-pub none_missing : (one other : List ℕ) → is_missing one other ≡ false → (x : ℕ) → Contains one x → Contains other x
-none_missing one other e x c =
-    elim (contained other x) [
+none_missing : (own links : List ℕ) (index : List (List ℕ)) → AreNoted index links → is_missing own index ≡ false → (link : ℕ) → Contains own link → Contains links link
+none_missing own links index noted e link c =
+    elim (contained links link) [
       | inl there ↦ there
-      | inr out ↦ absurd (no (Decides-list_any (λ y. not (list_any (λ z. z == y) other)) (λ y. Contains other y → ⊥) one
-          (λ y d. Decides-not (list_any (λ z. z == y) other) (Decides-among other y))) e (x, c, out))
+      | inr out ↦ absurd (no (Decides-is_missing own index) e (link, c, λ there. out ((noted link).0 there)))
     ]
 
-some_missing : (one other : List ℕ) → is_missing one other ≡ true → ((x : ℕ) → Contains one x → Contains other x) → ⊥
-some_missing one other e all =
-    let found = yes (Decides-list_any (λ y. not (list_any (λ z. z == y) other)) (λ y. Contains other y → ⊥) one
-    (λ y d. Decides-not (list_any (λ z. z == y) other) (Decides-among other y))) e in
-    found.2 (all found.0 found.1)
+some_missing : (own links : List ℕ) (index : List (List ℕ)) → AreNoted index links → is_missing own index ≡ true → ((link : ℕ) → Contains own link → Contains links link) → ⊥
+some_missing own links index noted e all =
+    let found = yes (Decides-is_missing own index) e in
+    found.2 ((noted found.0).1 (all found.0 found.1))
 
 -- a link that joins a centre to a node has it at its other end
 end_centre : (net : Net) (link centre : ℕ) (to : Node) → Joins net link (Centre centre) to → centre_at (slice_get net.links link) ≡ Some centre
@@ -52,11 +60,11 @@ module _ (net : Net) (limit : CentreLimit) (own : List ℕ) where
   pub no_links : own ≡ [] → IsTripOver net limit own (trip_over [] [])
   no_links e = record { lawful = inl refl; same = λ link. (λ c. absurd (Contains-nil link c), λ c. absurd (Contains-nil link (subst (λ xs. Contains xs link) e c))) }
 
-  pub found_trip : (links : List ℕ) (nodes : List Node) → is_missing own links ≡ false → is_missing links own ≡ false → Route net limit (trip_over links nodes)
-      → IsTripOver net limit own (trip_over links nodes)
-  found_trip links nodes e f route = record {
+  pub found_trip : (links : List ℕ) (nodes : List Node) (index : List (List ℕ)) → AreNoted index links → ((link : ℕ) → Contains links link → Contains own link)
+      → is_missing own index ≡ false → Route net limit (trip_over links nodes) → IsTripOver net limit own (trip_over links nodes)
+  found_trip links nodes index noted mine e route = record {
     lawful = inr route;
-    same = λ link. (none_missing links own f link, none_missing own links e link);
+    same = λ link. (mine link, none_missing own links index noted e link);
   }
 
   -- a trip from the centre is the one that was followed
@@ -70,15 +78,11 @@ module _ (net : Net) (limit : CentreLimit) (own : List ℕ) where
             (route, way.0, way.1 ∙ sym starts)
       ]
 
-  pub missing_own : (centre : ℕ) (links : List ℕ) (nodes : List Node) → IsOnlyWay net own (Centre centre) links nodes → is_missing own links ≡ true → NoneAt net limit own centre
-  missing_own centre links nodes only e trip over behind starts =
+  pub missing_own : (centre : ℕ) (links : List ℕ) (nodes : List Node) (index : List (List ℕ)) → IsOnlyWay net own (Centre centre) links nodes → AreNoted index links
+      → is_missing own index ≡ true → NoneAt net limit own centre
+  missing_own centre links nodes index only noted e trip over behind starts =
       let way = followed centre links nodes only trip over behind starts in
-      some_missing own links e (λ x c. subst (λ xs. Contains xs x) (sym way.1) ((over.same x).1 c))
-
-  pub missing_links : (centre : ℕ) (links : List ℕ) (nodes : List Node) → IsOnlyWay net own (Centre centre) links nodes → is_missing links own ≡ true → NoneAt net limit own centre
-  missing_links centre links nodes only e trip over behind starts =
-      let way = followed centre links nodes only trip over behind starts in
-      some_missing links own e (λ x c. (over.same x).0 (subst (λ xs. Contains xs x) way.1 c))
+      some_missing own links index noted e (λ link c. subst (λ xs. Contains xs link) (sym way.1) ((over.same link).1 c))
 
   pub no_route : (centre : ℕ) (links : List ℕ) (nodes : List Node) → IsOnlyWay net own (Centre centre) links nodes → (Route net limit (trip_over links nodes) → ⊥) → NoneAt net limit own centre
   no_route centre links nodes only none trip over behind starts =

@@ -1,21 +1,22 @@
 -- The cases of a split, one after the other.
 use Rattle.std.proofs.Common.{◌≡◌, ◌≢◌, ℕ, zero, suc, ◌+◌, ◌-◌, ◌<◌, ◌≤◌, ◌==◌, Bool, true, false, List, [], ◌∷◌, length, get_or, map, set, Vec, Global, refl, sym, ◌∙◌, ap, subst, inl, inr, arith}
 use Rattle.std.specs.Bool.{Decides}
-use Rattle.std.specs.List.{AllZip, range_with_len}
+use Rattle.std.specs.List.{AllZip, range_with_len, sum_by}
 use Rattle.std.proofs.lemmas.Bool.{cases_eq, cases_lt}
 use Rattle.std.proofs.lemmas.Bool.Decides.{nat_tests, Decides-like}
 use Rattle.std.proofs.lemmas.List.{get_or_default, get_or_past, set-get_or}
+use Rattle.std.proofs.lemmas.List.Sums.{get_or-le-sum_by}
 use Rattle.rr_routes.specs.declared.certificate.Fate.{Fate}
 use Rattle.rr_routes.specs.declared.certificate.Fate.TheVariants.{Open, Denied, Of}
 use Rattle.rr_routes.specs.declared.certificate.CertTree.{CertTree, Split}
 use Rattle.rr_routes.specs.declared.certificate.TheConstants.{MOST_NODES}
 use Rattle.rr_routes.specs.Net.{Net}
 use Rattle.rr_routes.specs.Certificates.{fate_of, choices, AcceptsUnder, node_count, all_open, Accepts}
-use Rattle.rr_routes.proofs.Children.{AcceptsUnder-Split, AcceptsChild}
+use Rattle.rr_routes.proofs.Children.{AcceptsUnder-Split, AcceptsChild, node_count-Split}
 use Rattle.rr_checker.specs.Choices.{choice_at}
 use Rattle.rr_checker.proofs.StepLemmas.{yes, no, Decides-never, Decides-always}
 
-choice_at-suc : (t : ℕ) → choice_at (suc t) ≡ Of t
+pub choice_at-suc : (t : ℕ) → choice_at (suc t) ≡ Of t
 choice_at-suc t =
     let test : (suc t == 0) ≡ false = grind (arith, nat_tests) in
     let less : suc t - 1 ≡ t = omega arith in
@@ -143,3 +144,12 @@ pub judged : (net : Net) (claim : ℕ) (tree : CertTree) (fates : List Fate) (sh
 judged net claim tree fates shown small none_decided d =
     Decides-like shown (λ a. record { small = small; shown = subst (λ fs. AcceptsUnder net claim fs tree) none_decided a })
     (λ a. subst (λ fs. AcceptsUnder net claim fs tree) (sym none_decided) a.shown) d
+
+-- a child has fewer nodes than the split
+pub child_fewer : (tree : CertTree) (link : ℕ) (children : Vec CertTree Global) (items : List CertTree) (place : ℕ) (child : CertTree)
+    → tree ≡ Split link children → items ≡ children.items → place < length items → child ≡ get_or items place child → node_count child < node_count tree
+child_fewer tree link children items place child is all less here =
+    let counted : node_count tree ≡ 1 + sum_by node_count children.items = ap (λ (t : CertTree). node_count t) is ∙ node_count-Split link children in
+    let sums : sum_by node_count items ≡ sum_by node_count children.items = ap (λ (xs : List CertTree). sum_by node_count xs) all in
+    let one : node_count child ≡ node_count (get_or items place child) = ap (λ (t : CertTree). node_count t) here in
+    omega (arith, counted, sums, one, get_or-le-sum_by node_count items place child less)

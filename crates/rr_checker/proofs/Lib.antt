@@ -8,7 +8,9 @@ pub mod ReachedLemmas
 pub mod BoundLemmas
 pub mod OwnLemmas
 pub mod JudgeLemmas
+pub mod KnownLemmas
 pub mod TripLemmas
+pub mod SimpleLemmas
 pub mod FollowLemmas
 pub mod JourneyLemmas
 pub mod FullLemmas

@@ -4,5 +4,6 @@ pub mod Searching
 pub mod Ranked
 pub mod Own
 pub mod Choices
+pub mod Known
 pub mod Trips
 pub mod Runs

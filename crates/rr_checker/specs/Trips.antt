@@ -8,11 +8,20 @@ use Rattle.rr_routes.specs.declared.net.Link.{Link}
 use Rattle.rr_routes.specs.Net.{Net, Joins, HasToken}
 use Rattle.rr_routes.specs.Routes.{Passes, Walk, Path, Trip, no_trip, Route, NoneTwice, EndsAreCentres, NoTerminalInside}
 use Rattle.rr_checker.specs.Steps.{same_node}
+use Rattle.rr_checker.specs.Index.{is_noted}
 use Rattle.rr_checker.specs.Own.{some_link, touches}
 
 -- the node at a place of the list
 abbrev pub node_at : List Node → ℕ → Node
 node_at nodes k = slice_index_or nodes k (Hexside 0)
+
+abbrev pub some_node : Option Node → (Node → Bool) → Bool
+some_node None test = false
+some_node (Some node) test = test node
+
+-- the node stands at that place of the list
+abbrev pub stands_at : List Node → Node → ℕ → Bool
+stands_at nodes node place = some_node (slice_get nodes place) (λ other. same_node other node)
 
 -- the link at a place of the walk joins the nodes before and behind it, and the walk passes on to the next link
 pub record GoesAt (net : Net) (links : List ℕ) (nodes : List Node) (k : ℕ) : Type 0 where
@@ -93,6 +102,6 @@ abbrev pub centre_at : Option Link → Option ℕ
 centre_at None = None
 centre_at (Some link) = centre_of link.other
 
--- some element of the one list isn't in the other
-abbrev pub is_missing : List ℕ → List ℕ → Bool
-is_missing one other = list_any (λ x. not (list_any (λ y. y == x) other)) one
+-- one of the links isn't noted
+abbrev pub is_missing : List ℕ → List (List ℕ) → Bool
+is_missing own index = list_any (λ link. not (is_noted index link)) own

@@ -1,9 +1,10 @@
 //! Links by the nodes that they touch.
 ghost use Rattle.std.specs.Prelude.{◌≡◌, Some, IfOk, OnOk, slice_get};
 ghost use Rattle.rr_routes.specs.Reachability.Index.{IsIndexOf};
-ghost use Rattle.rr_checker.specs.Index.{TouchesAt, node_key, noted_at, noted_at_ends};
+ghost use Rattle.rr_checker.specs.Index.{TouchesAt, is_noted, node_key, noted_at, noted_at_ends};
 
 use crate::railway::Net;
+use crate::step::is_among;
 use rr_routes::reachability::Index;
 use rr_routes::{Link, Node};
 use std::alloc::{AllocError, Global};
@@ -23,6 +24,13 @@ pub(crate) fn noted_at<'a>(index: &'a Index, node: &Node) -> &'a [usize]
     ensures { result.now ≡ noted_at index.now node.now }
 {
     index.noted_at(node_key(node))
+}
+
+// Whether the number is noted at itself.
+pub(crate) fn is_noted(index: &Index, number: usize) -> bool
+    ensures { result ≡ is_noted index.now number }
+{
+    is_among(index.noted_at(number), number)
 }
 
 // The links, by the nodes that they touch.

@@ -7,10 +7,9 @@ ghost use Rattle.rr_checker.specs.Index.{IsIndexOf, TouchesAt, noted_at};
 ghost use Rattle.rr_checker.specs.Own.{touches};
 ghost use Rattle.rr_checker.specs.Trips.{IsTripOver, NoneAt, NoneFrom, SameElements, centre_at, centre_of, is_missing, meets_another, trip_over};
 
-use crate::index::{index_of_links, noted_at};
+use crate::index::{index_of_links, is_noted, noted_at};
 use crate::own::{is_crowded_on, touches};
 use crate::railway::Net;
-use crate::step::is_among;
 use crate::trips::{Journey, follow, is_route};
 use rr_routes::reachability::Index;
 use rr_routes::{CentreLimit, Node};
@@ -100,13 +99,11 @@ fn from_centre(
     ensures { IfOk result (λ found. MatchOption found (NoneAt net.now limit.now own.now centre)
         (λ journey. IsTripOver net.now limit.now own.now (trip_over journey.links.items journey.nodes.items))) }
 {
-    let journey = follow(alloc, net, own, index, centre)?;
-    if is_missing(own, &journey.links) {
+    let followed = follow(alloc, net, own, index, centre)?;
+    if is_missing(own, &followed.taken) {
         return Ok(None);
     }
-    if is_missing(&journey.links, own) {
-        return Ok(None);
-    }
+    let journey = followed.journey;
     let lawful = is_route(alloc, net, limit, &journey.links, &journey.nodes)?;
     if !lawful {
         return Ok(None);
@@ -114,10 +111,11 @@ fn from_centre(
     Ok(Some(journey))
 }
 
-fn is_missing(one: &[usize], other: &[usize]) -> bool
-    ensures { result ≡ is_missing one.now other.now }
+// Whether one of the links isn't noted.
+fn is_missing(own: &[usize], taken: &Index) -> bool
+    ensures { result ≡ is_missing own.now taken.now }
 {
-    one.iter().any(|x| !is_among(other, *x))
+    own.iter().any(|link| !is_noted(taken, *link))
 }
 
 /// The centre at the end of the link that isn't its hexside; none where that is a hexside too, or there is no such

@@ -1,19 +1,19 @@
 //! Where a train goes: the links in order, and the nodes along them.
-ghost use Rattle.std.specs.Prelude.{◌≡◌, ℕ, ◌+◌, ◌<◌, ◌==◌, ◌&&◌, ◌++◌, [], ◌∷◌, not, nat_lt, Some, IfOk, OnOk, MatchOption, Contains, length, slice_get};
+ghost use Rattle.std.specs.Prelude.{◌≡◌, ◌↔◌, ℕ, ◌+◌, ◌<◌, ◌==◌, ◌&&◌, ◌++◌, [], ◌∷◌, not, nat_lt, Some, IfOk, OnOk, MatchOption, Contains, length, slice_get};
 ghost use Rattle.std.specs.Bool.{Decides};
 ghost use Rattle.std.specs.List.{list_any};
 ghost use Rattle.rr_routes.specs.declared.net.Node.TheVariants.{Centre};
 ghost use Rattle.rr_routes.specs.Net.{Touches};
 ghost use Rattle.rr_routes.specs.Routes.{EndsAreCentres, NoTerminalInside, NoneTwice, Route, Walk, centres};
 ghost use Rattle.rr_checker.specs.Steps.{has_token, is_terminal, same_node};
-ghost use Rattle.rr_checker.specs.Index.{IsIndexOf, TouchesAt};
+ghost use Rattle.rr_checker.specs.Index.{IsIndexOf, IsNoted, TouchesAt, is_noted};
 ghost use Rattle.rr_checker.specs.Own.{is_over, touches};
-ghost use Rattle.rr_checker.specs.Trips.{GoesAt, IsOnlyWay, IsWay, far, far_end, hexes_differ, is_centre, joins, link_joins, node_at, passes_on, trip_over};
+ghost use Rattle.rr_checker.specs.Trips.{GoesAt, IsOnlyWay, IsWay, far, far_end, hexes_differ, is_centre, joins, link_joins, node_at, passes_on, stands_at, trip_over};
 
-use crate::index::noted_at;
+use crate::index::{is_noted, node_key, noted_at};
 use crate::own::{is_over, touches};
 use crate::railway::Net;
-use crate::step::{has_token, is_among, is_terminal, same_node};
+use crate::step::{has_token, is_terminal, same_node};
 use rr_routes::reachability::Index;
 use rr_routes::{CentreLimit, Link, Node};
 use std::alloc::{AllocError, Global};
@@ -25,6 +25,13 @@ pub struct Journey {
     pub nodes: Vec<Node>,
 }
 
+// A journey, and its links by their own numbers.
+#[derive(Debug, Drop)]
+pub(crate) struct Followed {
+    pub(crate) journey: Journey,
+    pub(crate) taken: Index,
+}
+
 // The only way over all the links that begins at the centre, if there is one.
 pub(crate) fn follow(
     alloc: Global,
@@ -32,31 +39,39 @@ pub(crate) fn follow(
     own: &[usize],
     index: &Index,
     start: usize,
-) -> Result<Journey, AllocError>
+) -> Result<Followed, AllocError>
     requires { IsIndexOf (TouchesAt net.now own.now) index.now }
-    ensures { IfOk result (λ journey. IsOnlyWay net.now own.now (Centre start) journey.links.items journey.nodes.items) }
+    ensures way { IfOk result (λ f. IsOnlyWay net.now own.now (Centre start) f.journey.links.items f.journey.nodes.items) }
+    ensures own { IfOk result (λ f. (link : ℕ) → Contains f.journey.links.items link → Contains own.now link) }
+    ensures taken { IfOk result (λ f. (link : ℕ) → IsNoted f.taken link ↔ Contains f.journey.links.items link) }
 {
     let mut links = Vec::new(alloc);
     let mut nodes = Vec::new(alloc);
+    let mut taken = Index::with_rows(alloc, own.len())?;
     let mut at = Node::Centre(start);
     nodes.push(at)?;
     for turn in 0..own.len() {
-        match next_link(net, noted_at(index, &at), &links, &at) {
-            None => return Ok(Journey { links, nodes }),
+        match next_link(net, noted_at(index, &at), &taken, &at) {
+            None => {
+                let journey = Journey { links, nodes };
+                return Ok(Followed { journey, taken });
+            }
             Some(link) => {
                 at = far_end(net, link, &at);
+                taken.note(link, link)?;
                 links.push(link)?;
                 nodes.push(at)?;
             }
         }
     }
-    Ok(Journey { links, nodes })
+    let journey = Journey { links, nodes };
+    Ok(Followed { journey, taken })
 }
 
-// The first of the links that touches the node and wasn't taken.
-fn next_link(net: &Net, own: &[usize], taken: &[usize], at: &Node) -> Option<usize>
-    ensures { MatchOption result ((link : ℕ) → Contains own.now link → Touches net.now link at.now → Contains taken.now link)
-        (λ link. Contains own.now link × (Touches net.now link at.now × (Contains taken.now link → ⊥))) }
+// The first of the links that touches the node and wasn't taken. Each link that was taken is noted at its own number.
+fn next_link(net: &Net, own: &[usize], taken: &Index, at: &Node) -> Option<usize>
+    ensures { MatchOption result ((link : ℕ) → Contains own.now link → Touches net.now link at.now → IsNoted taken.now link)
+        (λ link. Contains own.now link × (Touches net.now link at.now × (IsNoted taken.now link → ⊥))) }
 {
     for link in own {
         if is_next(net, taken, at, *link) {
@@ -66,10 +81,10 @@ fn next_link(net: &Net, own: &[usize], taken: &[usize], at: &Node) -> Option<usi
     None
 }
 
-fn is_next(net: &Net, taken: &[usize], at: &Node, link: usize) -> bool
-    ensures { result ≡ (touches net.now link at.now && not (list_any (λ other. other == link) taken.now)) }
+fn is_next(net: &Net, taken: &Index, at: &Node, link: usize) -> bool
+    ensures { result ≡ (touches net.now link at.now && not (is_noted taken.now link)) }
 {
-    touches(net, link, at) && !is_among(taken, link)
+    touches(net, link, at) && !is_noted(taken, link)
 }
 
 /// The node at the other end of the link, for one who comes from the given node; that node where the net has no such
@@ -106,7 +121,7 @@ pub(crate) fn is_route(
     if counts_over(limit, &counted) {
         return Ok(false);
     }
-    Ok(is_way(net, links, nodes))
+    is_way(alloc, net, links, nodes)
 }
 
 /// Whether these are more centres than a train of the limit counts.
@@ -141,22 +156,53 @@ pub(crate) fn push_centre(counted: &mut Vec<usize>, node: &Node) -> Result<(), A
 }
 
 // Whether it is a path between centres, with a token on it and no terminal node inside.
-fn is_way(net: &Net, links: &[usize], nodes: &[Node]) -> bool
-    ensures { Decides result (IsWay net.now links.now nodes.now) }
+fn is_way(alloc: Global, net: &Net, links: &[usize], nodes: &[Node]) -> Result<bool, AllocError>
+    ensures { IfOk result (λ is_way. Decides is_way (IsWay net.now links.now nodes.now)) }
 {
     if !is_walk(net, links, nodes) {
-        return false;
+        return Ok(false);
     }
-    if !is_simple(nodes) {
-        return false;
+    let simple = is_simple_by_index(alloc, nodes)?;
+    if !simple {
+        return Ok(false);
     }
     if !ends_at_centres(nodes) {
-        return false;
+        return Ok(false);
     }
     if !is_clear(net, nodes) {
-        return false;
+        return Ok(false);
     }
-    has_token_on(net, nodes)
+    Ok(has_token_on(net, nodes))
+}
+
+// Whether no node stands twice. Of those before a node only the ones in its row of an index are looked at.
+fn is_simple_by_index(alloc: Global, nodes: &[Node]) -> Result<bool, AllocError>
+    ensures { IfOk result (λ simple. Decides simple (NoneTwice nodes.now)) }
+{
+    let mut seen = Index::with_rows(alloc, nodes.len())?;
+    for (place, node) in nodes.iter().enumerate() {
+        if stands_at_one(nodes, noted_at(&seen, node), node) {
+            return Ok(false);
+        }
+        seen.note(node_key(node), place)?;
+    }
+    Ok(true)
+}
+
+// Whether the node stands at one of the places.
+fn stands_at_one(nodes: &[Node], places: &[usize], node: &Node) -> bool
+    ensures { result ≡ list_any (stands_at nodes.now node.now) places.now }
+{
+    places.iter().any(|place| stands_at(nodes, node, *place))
+}
+
+fn stands_at(nodes: &[Node], node: &Node, place: usize) -> bool
+    ensures { result ≡ stands_at nodes.now node.now place }
+{
+    match nodes.get(place) {
+        Some(other) => same_node(other, node),
+        None => false,
+    }
 }
 
 /// Whether the corporation has a token at one of the nodes.

@@ -240,19 +240,19 @@ fn halves_lie_behind_the_roots(rt: HostRuntime) {
     }
 }
 
-// Whether slot 254 alone has no room for a record of two whole slots, and slots 253 and 254 take one, and nothing else.
+// Whether slots 248 to 254 have no room for the longest record, and slots 247 to 254 take it, and nothing else.
 fn takes_last_slots(journal: &mut Journal, long: &[u8], longer: &[u8]) -> bool {
     journal.half = Half {
         index: HalfIndex::Second,
-        next_slot: 254,
+        next_slot: 248,
     };
-    let is_refused = [journal.refuses(1, long), journal.half.next_slot == 254];
-    journal.half.next_slot = 253;
+    let is_refused = [journal.refuses(1, long), journal.half.next_slot == 248];
+    journal.half.next_slot = 247;
     let is_right = [
-        journal.half.has_room(8179),
-        !journal.half.has_room(8180),
+        journal.half.has_room(32_755),
+        !journal.half.has_room(32_756),
         !journal.half.has_room(0),
-        journal.half.next_gate() == 2_093_056,
+        journal.half.next_gate() == 2_068_480,
         journal.refuses(1, longer),
         journal.append(1, long).is_ok(),
         journal.half.next_slot == 255,
@@ -265,13 +265,41 @@ fn takes_last_slots(journal: &mut Journal, long: &[u8], longer: &[u8]) -> bool {
 fn slot_255_holds_nothing(rt: HostRuntime) {
     let alloc = rt.alloc();
     let mut journal = Journal::blank(&rt, alloc, 514, 1 << 22);
-    let longer = vec![in alloc; 7u8; 8180].expect(&rt, "memory");
-    let long = &longer[..8179];
+    let longer = vec![in alloc; 7u8; 32_756].expect(&rt, "memory");
+    let long = &longer[..32_755];
     assert!(rt; takes_last_slots(&mut journal, long, &longer));
 }
 
-// The length that is written to the second record, 0 and then 8,180 bytes.
-static WRONG_LENGTHS: [[u8; 4]; 2] = [[0, 0, 0, 0], [0, 0, 0x1f, 0xf4]];
+// The slot after a record of so many bytes in slot 0.
+fn slot_after(alloc: Global, journal: &mut Journal, count: usize) -> Result<u8, Fault> {
+    journal.half = first_half();
+    let bytes = vec![in alloc; 7u8; count]?;
+    journal.append(1, &bytes)?;
+    Ok(journal.half.next_slot)
+}
+
+// How many bytes a record has, and the slots that it takes. The longest line without its stamp has 31,998.
+static SLOTS: [(usize, u8); 6] = [
+    (4_083, 1),
+    (4_084, 2),
+    (8_179, 2),
+    (8_180, 3),
+    (31_998, 8),
+    (32_755, 8),
+];
+
+#[test]
+fn a_record_takes_the_slots_that_its_bytes_fill(rt: HostRuntime) {
+    let alloc = rt.alloc();
+    let mut journal = Journal::blank(&rt, alloc, 514, 1 << 22);
+    for &(count, slots) in &SLOTS {
+        let after = slot_after(alloc, &mut journal, count).expect(&rt, "room");
+        assert!(&rt; after == slots);
+    }
+}
+
+// The length that is written to the second record, 0 and then 32,756 bytes.
+static WRONG_LENGTHS: [[u8; 4]; 2] = [[0, 0, 0, 0], [0, 0, 0x7f, 0xf4]];
 
 #[test]
 fn scan_says_why_it_ended(rt: HostRuntime) {

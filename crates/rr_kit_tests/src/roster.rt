@@ -1,6 +1,6 @@
 //! The shipped roster, and texts that are no roster.
 use crate::shown::is_shown;
-use rr_roster::{Corp, Fault, Kind, Private, Roster, Rule, laws};
+use rr_roster::{Corp, Fault, Kind, Private, Roster, Rule, laws, names_bank, says_bank};
 use std::alloc::Global;
 use std::process::Abort;
 
@@ -84,7 +84,7 @@ fn fault_with(alloc: Global, old: &str, new: &str) -> Option<Fault> {
 }
 
 /// Parts, what they are replaced by, and why the text is refused then.
-static REPLACED: [(&str, &str, Option<Fault>); 14] = [
+static REPLACED: [(&str, &str, Option<Fault>); 20] = [
     ("C&SL", "D&H", Some(Fault::Broken(Rule::PrivateNames))),
     ("ERIE", "PRR", Some(Fault::Broken(Rule::CorporationNames))),
     ("\"3\"", "\"2\"", Some(Fault::Broken(Rule::TrainNames))),
@@ -111,6 +111,24 @@ static REPLACED: [(&str, &str, Option<Fault>); 14] = [
     ("count=2", "count=2, trade=500", Some(Fault::Shape)),
     (", trade=800", "", Some(Fault::Shape)),
     ("ERIE", "ÉRIE", Some(Fault::Shape)),
+    (
+        "private =",
+        "bank = 2399\nprivate =",
+        Some(Fault::Broken(Rule::BankNumber)),
+    ),
+    ("private =", "bank = 2400\nprivate =", None),
+    ("private =", "bank = 100000\nprivate =", None),
+    (
+        "private =",
+        "bank = 100001\nprivate =",
+        Some(Fault::Broken(Rule::BankNumber)),
+    ),
+    (
+        "private =",
+        "bank = \"2400\"\nprivate =",
+        Some(Fault::Shape),
+    ),
+    ("private =", "bank = 2400.0\nprivate =", Some(Fault::Shape)),
 ];
 
 /// Whether each of the parts makes the text one that is refused as is said.
@@ -126,6 +144,47 @@ fn are_refused(alloc: Global, parts: &[(&str, &str, Option<Fault>)]) -> bool {
 #[test]
 fn names_the_first_broken_rule_and_refuses_other_forms(rt: HostRuntime) {
     assert!(rt; are_refused(rt.alloc(), &REPLACED));
+}
+
+/// What a roster's bank begins with, and the bank that it names; nothing where the text is refused.
+fn bank_of(alloc: Global, line: &str) -> Option<(u32, Option<u32>)> {
+    let text = SHIPPED.replace(alloc, "private =", line).ok()?;
+    let roster = Roster::read(alloc, text.as_str()).ok()?;
+    Some((roster.bank(), roster.named_bank()))
+}
+
+#[test]
+fn a_bank_begins_with_12000_if_none_is_named(rt: HostRuntime) {
+    let named = bank_of(rt.alloc(), "bank = 2400\nprivate =");
+    let unnamed = bank_of(rt.alloc(), "private =");
+    assert!(rt; (named, unnamed) == (Some((2_400, Some(2_400))), Some((12_000, None))));
+}
+
+/// Whether the text names a bank, and whether it says that the bank begins with 2,400 and with 12,000.
+fn told_of_the_bank(alloc: Global, line: &str) -> [bool; 3] {
+    match SHIPPED.replace(alloc, "private =", line) {
+        Ok(text) => [
+            names_bank(alloc, text.as_str()) == Ok(true),
+            says_bank(alloc, text.as_str(), 2_400) == Ok(true),
+            says_bank(alloc, text.as_str(), 12_000) == Ok(true),
+        ],
+        Err(_) => [false; 3],
+    }
+}
+
+/// Lines, and what is told with each of them: the last two spell no roster.
+static BANKS: [(&str, [bool; 3]); 4] = [
+    ("private =", [false, false, true]),
+    ("bank = 2400\nprivate =", [true, true, false]),
+    ("bank = 2399\nprivate =", [true, true, true]),
+    ("bank = 0.5\nprivate =", [false, true, true]),
+];
+
+#[test]
+fn texts_name_banks(rt: HostRuntime) {
+    for (line, told) in &BANKS {
+        assert!(&rt; told_of_the_bank(rt.alloc(), *line) == *told);
+    }
 }
 
 #[test]

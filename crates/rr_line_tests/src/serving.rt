@@ -253,9 +253,9 @@ const REFUSED: &[u8] = b"no 67 line too long\nnext\n";
 
 /// How long a line is, and what is written of it and of the next one; none where that is the input.
 static LENGTHS: [(usize, Option<&[u8]>); 3] = [
-    (8_000, None),
-    (8_001, Some(REFUSED)),
-    (20_000, Some(REFUSED)),
+    (32_000, None),
+    (32_001, Some(REFUSED)),
+    (80_000, Some(REFUSED)),
 ];
 
 #[test]
@@ -275,7 +275,7 @@ fn tells_lines_too_long(rt: HostRuntime) {
 #[test]
 fn a_long_rest_is_malformed(rt: HostRuntime) {
     let rt = &rt;
-    let input = vec![in rt.alloc(); b'x'; 8_001].expect(rt, "memory");
+    let input = vec![in rt.alloc(); b'x'; 32_001].expect(rt, "memory");
     let mut buffer = make_buffer(rt);
     let lines = check_served(rt, &mut buffer, &input, b"no 55 malformed line\n");
     check(rt, "lines", lines, 0);

@@ -60,6 +60,6 @@ IsPastLast number = 2 ^ 63 ≤ number + 1
 abbrev pub HasNoRoom : Place → ℕ → Type 0
 HasNoRoom place count = HasRoom place.half.next_slot count → ⊥
 
--- a record of so many bytes has room in no half: it takes more than two slots
+-- a record of so many bytes has room in no half: it takes more than eight slots
 abbrev pub IsTooLong : ℕ → Type 0
 IsTooLong count = HasRoom 0 count → ⊥

@@ -261,12 +261,12 @@ fn kept(alloc: Global, count: usize) -> Result<(Option<Fault>, State), Fail> {
     Ok((fault, state(&log)))
 }
 
-// Two slots hold 8,179 bytes behind a record's 13.
+// Eight slots hold the 13 bytes of a record's header and 32,755 more.
 #[test]
-fn a_record_takes_two_slots_at_most(rt: HostRuntime) -> Result<(), Fail> {
+fn a_record_takes_eight_slots_at_most(rt: HostRuntime) -> Result<(), Fail> {
     let full = Some(Fault::HalfFull);
-    assert!(rt; kept(rt.alloc(), 8180)? == (full, (0, 0, false)));
-    assert!(rt; kept(rt.alloc(), 8179)? == (None, (1, 0, false)));
+    assert!(rt; kept(rt.alloc(), 32_756)? == (full, (0, 0, false)));
+    assert!(rt; kept(rt.alloc(), 32_755)? == (None, (1, 0, false)));
     Ok(())
 }
 

@@ -18,7 +18,7 @@ pub enum Fault {
     /// The rules of the game refuse it. Want of memory isn't told by this, but by `OutOfMemory`.
     #[error("{0}")]
     Game(Refusal),
-    /// No best run was found whose certificate has at most 1,024 nodes and which a line has room for.
+    /// No best run was found whose certificate has at most 4,096 nodes and which a line has room for.
     #[error("no certificate found")]
     NoCertificate,
     /// The stamp isn't the table's, which is given.
@@ -55,7 +55,7 @@ pub enum Fault {
     /// There are 64 tables.
     #[error("too many tables")]
     TooManyTables,
-    /// The line has more than 8,000 bytes.
+    /// The line has more than 32,000 bytes.
     #[error("line too long")]
     LineTooLong,
     /// No table has this name.

@@ -18,7 +18,7 @@ fn found(rt: &impl Abort, alloc: Global, table: &Position, most: usize) -> Resul
 
 /// Whether this revenue and these words of a sheet are found, and the words are read as an order.
 fn finds(rt: &impl Abort, alloc: Global, table: &Position, revenue: i64, sheet: &[u8]) -> bool {
-    match found(rt, alloc, table, 8000) {
+    match found(rt, alloc, table, 32_000) {
         Ok(run) => is_found(&run, revenue, sheet),
         Err(_) => false,
     }

@@ -7,7 +7,7 @@
 //!   current. Writes make exactly their device calls, in order, and none after one that failed.
 //! - On an honest disk, during `Half::append` each image has the records from before, or those and the new one whole;
 //!   after success the latter. A half is refused as full exactly if its slots don't suffice, or the record is longer
-//!   than two.
+//!   than eight.
 #![tactic(auto)]
 
 mod chain;
@@ -32,4 +32,4 @@ pub use page::{FIRST_DATA, LEAST_PAGES, LINK_BYTES, MOST_PAGES, MOST_USED, OPEN,
 pub use page_set::PageSet;
 pub use reached_pages::ReachedPages;
 pub use reading::{FollowedChain, Link, ReadChain, chain_follow, read_pieces};
-pub use root::{NEWEST_VERSION, ROOT_BYTES, Root, Roots};
+pub use root::{FIRST_VERSION, NEWEST_VERSION, ROOT_BYTES, Root, Roots};

@@ -20,5 +20,5 @@ mod spelled;
 
 pub use company::{Corp, Kind, Private};
 pub use fault::{Fault, Rule};
-pub use roster::Roster;
+pub use roster::{Roster, names_bank, says_bank};
 pub use sources::{ShareSource, TrainSource};

@@ -29,7 +29,7 @@ counted_greatest f (AtMost most) picked ranked none few all descending = sum_gre
 counted_greatest f Unlimited picked ranked none few all descending = sum_within f picked ranked none (λ x c. inl (all x c))
 
 module _ (net : Net) (fates : List Fate) where
-  greatest_pick : (train : ℕ) (best : List ℕ) → Greatest net fates train best → Pick net fates train best
+  pub greatest_pick : (train : ℕ) (best : List ℕ) → Greatest net fates train best → Pick net fates train best
   greatest_pick train best greatest =
       let limit = limit_of net train in
       subst (λ picked. Pick net fates train picked) (sym greatest.best_is) (record {

@@ -1,5 +1,5 @@
 /// The most nodes that a certificate may have.
-pub const MOST_NODES: usize = 1024;
+pub const MOST_NODES: usize = 4096;
 
 /// Who may run over a link, as far as a certificate has decided it.
 #[derive(Clone, Copy, Debug, PartialEq, Eq)]

@@ -16,9 +16,9 @@ ghost use Rattle.rr_routes.specs.declared.certificate.CertTree.{CertTree, Bound,
 
 use crate::certificate::MOST_NODES;
 
-/// A certificate has at most 1,024 nodes.
+/// A certificate has at most 4,096 nodes.
 pub fn most_nodes()
-    ensures { MOST_NODES ≡ 1024 }
+    ensures { MOST_NODES ≡ 4096 }
 {}
 
 /// If a certificate is accepted for a claim, no run of the net earns more than the claim. A run that earns the claim is

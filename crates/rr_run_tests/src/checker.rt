@@ -56,7 +56,10 @@ fn keeps_what_it_is_given(rt: HostRuntime) {
 // over the link behind the town a 2 earns no more than 30, nor without the first link
 const THIRTY: &str = "s5 b s1 b s4 x1 x1";
 
-static ONE_TRAIN: [Case; 7] = [
+// a 2 reaches 20 and 10 without link 5, 20 alone without the first link too, and else 40 and 30
+const THREE_REACHES: &str = "s5 s1 b b b";
+
+static ONE_TRAIN: [Case; 10] = [
     (ROW, TWO, 30, THIRTY, true),
     (ROW, TWO, 20, THIRTY, false),
     (ROW, THREE, 60, "s7 b s1 b s4 x1 s6 x1 x1", true),
@@ -64,6 +67,9 @@ static ONE_TRAIN: [Case; 7] = [
     (ROW, THREE, 90, "b", true),
     (ROW, EXPRESS, 100, "b", true),
     (ROW, EXPRESS, 99, "b", false),
+    (ROW, TWO, 30, THREE_REACHES, false),
+    (ROW, TWO, 69, THREE_REACHES, false),
+    (ROW, TWO, 70, THREE_REACHES, true),
 ];
 
 #[test]
@@ -77,8 +83,8 @@ fn judges_the_form_of_a_tree(rt: HostRuntime) {
     let alloc = rt.alloc();
     // a split without the case of the train
     assert!(rt; !is_accepted(rt, alloc, &ROW, TWO, 1000, 0, b"s5 b"));
-    // a link that is split again where it is decided, 511 levels deep
-    let deep = deep_text(rt, alloc, b"s1 b ", 511, b'f');
+    // a link that is split again where it is decided, 2,047 levels deep
+    let deep = deep_text(rt, alloc, b"s1 b ", 2_047, b'f');
     assert!(rt; !is_accepted(rt, alloc, &ROW, TWO, 30, 1, &deep));
 }
 

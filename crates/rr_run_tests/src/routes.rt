@@ -1,6 +1,6 @@
 //! The laws of routes, and how many nodes a certificate has.
 use rr_routes::sheets::read_certificate;
-use rr_routes::{CertTree, laws};
+use rr_routes::{CertTree, MOST_NODES, laws};
 
 #[test]
 fn laws_are_called() {
@@ -20,10 +20,10 @@ fn nodes_are_counted(rt: HostRuntime) {
     let rt = &rt;
     let tree = read_certificate(rt.alloc(), 1, b"s5 f s1 b s4 x1 x1").expect(rt, "a certificate");
     let left = [
-        tree.nodes_left(1024),
+        tree.nodes_left(MOST_NODES),
         tree.nodes_left(7),
         tree.nodes_left(6),
         CertTree::Full.nodes_left(0),
     ];
-    assert!(rt; left == [Some(1017), Some(0), None, None]);
+    assert!(rt; left == [Some(4089), Some(0), None, None]);
 }

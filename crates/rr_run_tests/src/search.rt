@@ -7,6 +7,7 @@ use rr_checker::{CentreLimit, CertTree, Link, Net, Node, check};
 use rr_guesses::guess;
 use rr_referee::{legal, limit_of_kind};
 use rr_roster::Kind;
+use rr_routes::MOST_NODES;
 use rr_routes::sheets::Sheet;
 use rr_search::{Fault, best};
 use std::alloc::{AllocError, Global};
@@ -46,7 +47,7 @@ fn guesses_a_run_and_its_certificate(rt: HostRuntime) {
     let rt = &rt;
     let alloc = rt.alloc();
     let net = net_of_row(rt, alloc, TWO);
-    let guessed = guess(alloc, &net, &[Kind::Two], 1024).expect(rt, "memory");
+    let guessed = guess(alloc, &net, &[Kind::Two], MOST_NODES).expect(rt, "memory");
     let found = guessed.expect(rt, "a guess");
     check_run(rt, alloc, &net, &found, TO_THE_TOWN);
 }
@@ -55,7 +56,7 @@ fn guesses_a_run_and_its_certificate(rt: HostRuntime) {
 fn check_best(rt: &impl Abort, alloc: Global, plan: &Plan, wanted: Run) {
     let (kind, _, _) = wanted;
     let net = net_of(rt, alloc, plan, &[limit_of_kind(kind)]);
-    let found = best(alloc, &net, 1024).expect(rt, "a run");
+    let found = best(alloc, &net, MOST_NODES).expect(rt, "a run");
     check_run(rt, alloc, &net, &found, wanted);
 }
 
@@ -71,16 +72,16 @@ fn runs_a_diesel_off_the_board(rt: HostRuntime) {
     check_best(&rt, rt.alloc(), &ROW, OFF_THE_BOARD);
 }
 
-/// Eleven links in a row.
+/// Twelve links in a row.
 const LONG_ROW: Plan = Plan {
-    links: "00c0 10s1 21c1 22c1 32s3 43c2 44c2 54s5 65c3 66c3 76c4",
+    links: "00c0 10s1 21c1 22c1 32s3 43c2 44c2 54s5 65c3 66c3 76s7 87c4",
     token: 2,
     terminals: &[4],
 };
 
-const ALL_ALONG: Run = (Kind::Diesel, &[1, 2, 3, 4, 5, 6, 7, 8, 9, 10, 11], 150);
+const ALL_ALONG: Run = (Kind::Diesel, &[1, 2, 3, 4, 5, 6, 7, 8, 9, 10, 11, 12], 150);
 
-// The tree that splits each of the links for a diesel has 4,095 nodes.
+// The tree that splits each of the links for a diesel has 8,191 nodes.
 #[test]
 fn finds_more_than_the_whole_tree_shows(rt: HostRuntime) {
     check_best(&rt, rt.alloc(), &LONG_ROW, ALL_ALONG);
@@ -88,7 +89,7 @@ fn finds_more_than_the_whole_tree_shows(rt: HostRuntime) {
 
 /// Why nothing is found for a train that counts so many centres, within so many nodes.
 fn refusal(rt: &impl Abort, alloc: Global, centres: usize, nodes: usize) -> Option<Fault> {
-    assert!(rt; nodes <= 1024);
+    assert!(rt; nodes <= MOST_NODES);
     let net = net_of_row(rt, alloc, CentreLimit::AtMost(centres));
     best(alloc, &net, nodes).err()
 }
@@ -98,7 +99,7 @@ fn gives_up_where_it_may(rt: HostRuntime) {
     let rt = &rt;
     // each tree has a node, and no kind of train counts seven centres
     let no_tree = refusal(rt, rt.alloc(), 2, 0);
-    let no_kind = refusal(rt, rt.alloc(), 7, 1024);
+    let no_kind = refusal(rt, rt.alloc(), 7, MOST_NODES);
     assert!(rt; [no_tree, no_kind] == [Some(Fault::NoCertificate); 2]);
 }
 
@@ -307,7 +308,7 @@ fn most_of_all(
 fn best_revenue(rt: &impl Abort, alloc: Global, net: &Net) -> usize
     requires { IsModest net.now }
 {
-    let (sheet, tree) = best(alloc, net, 1024).expect(rt, "a run");
+    let (sheet, tree) = best(alloc, net, MOST_NODES).expect(rt, "a run");
     let revenue = legal(alloc, net, &sheet).expect(rt, "a legal sheet");
     assert!(rt; is_shown(rt, alloc, net, revenue, &tree));
     revenue

@@ -215,10 +215,10 @@ fn deep_refusal(rt: &impl Abort, alloc: Global, splits: usize) -> Option<Fault> 
 }
 
 #[test]
-fn certificates_have_at_most_1024_nodes(rt: HostRuntime) {
+fn certificates_have_at_most_4096_nodes(rt: HostRuntime) {
     let rt = &rt;
-    assert!(rt; deep_refusal(rt, rt.alloc(), 1023) == None);
-    assert!(rt; deep_refusal(rt, rt.alloc(), 1024) == Some(Fault::CertificateRefused));
+    assert!(rt; deep_refusal(rt, rt.alloc(), 4095) == None);
+    assert!(rt; deep_refusal(rt, rt.alloc(), 4096) == Some(Fault::CertificateRefused));
 }
 
 #[test]

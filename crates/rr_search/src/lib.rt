@@ -3,7 +3,7 @@
 //!
 //! Stands on `rr_guesses`. Its promise: what `best` returns is a legal sheet with an accepted certificate. `best_run`
 //! returns it in words that fit its line and that the rules accept. It finds none only if memory runs out or
-//! `MayLackRun` allows it; one train on nine links always gets a run, or 70.
+//! `MayLackRun` allows it; one train on eleven links always gets a run, or 70.
 #![tactic(auto)]
 
 pub mod best_run;

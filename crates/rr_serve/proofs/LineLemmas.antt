@@ -37,26 +37,26 @@ AllByRecursion-append P [] ys first second = second
 AllByRecursion-append P (x ∷ xs) ys first second = (first.0, AllByRecursion-append P xs ys first.1 second)
 
 -- to take as many as there are at most takes them all
-pub taken-min : (known : ℕ) (xs : List ℕ) → known ≡ min (length xs) 8001 → take known xs ≡ taken xs
+pub taken-min : (known : ℕ) (xs : List ℕ) → known ≡ min (length xs) 32001 → take known xs ≡ taken xs
 unfolding taken
-taken-min known xs is = ap (λ n. take n xs) (is ∙ min_comm (length xs) 8001) ∙ take_min 8001 xs
+taken-min known xs is = ap (λ n. take n xs) (is ∙ min_comm (length xs) 32001) ∙ take_min 32001 xs
 
 pub taken-nil : taken [] ≡ []
 unfolding taken
 taken-nil = refl
 
 -- what fits of more bytes is kept
-pub taken-room : (xs ys : List ℕ) → length xs ≤ 8001 → xs ++ take (min (length ys) (8001 - length xs)) ys ≡ taken (xs ++ ys)
+pub taken-room : (xs ys : List ℕ) → length xs ≤ 32001 → xs ++ take (min (length ys) (32001 - length xs)) ys ≡ taken (xs ++ ys)
 unfolding taken
 taken-room xs ys fits =
-    let room : length xs + (8001 - length xs) ≡ 8001 = omega arith in
-    ap (λ n. xs ++ take n ys) (min_comm (length ys) (8001 - length xs)) ∙ ap (λ zs. xs ++ zs) (take_min (8001 - length xs) ys)
-    ∙ sym (take-append-add xs ys (8001 - length xs)) ∙ ap (λ n. take n (xs ++ ys)) room
+    let room : length xs + (32001 - length xs) ≡ 32001 = omega arith in
+    ap (λ n. xs ++ take n ys) (min_comm (length ys) (32001 - length xs)) ∙ ap (λ zs. xs ++ zs) (take_min (32001 - length xs) ys)
+    ∙ sym (take-append-add xs ys (32001 - length xs)) ∙ ap (λ n. take n (xs ++ ys)) room
 
 -- what the buffer has taken says as much of the line as the line itself
 pub taken-append_taken : (xs ys : List ℕ) → taken (taken xs ++ ys) ≡ taken (xs ++ ys)
 unfolding taken
-taken-append_taken xs ys = take-append_take 8001 xs ys
+taken-append_taken xs ys = take-append_take 32001 xs ys
 
 pub taken-taken : (xs : List ℕ) → taken (taken xs) ≡ taken xs
 taken-taken xs =

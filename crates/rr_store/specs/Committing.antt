@@ -114,7 +114,7 @@ pub record Commits {D : Type 0} (Honest Works : D → Type 0) (state : D → Dis
   pub grows_in_all : Honest (disk_of new) → (texts : KitTexts) → Carries state old texts → GrowsInAll state (file_of old) (file_of new)
   -- what the opening played stays told
   pub replayed : replayed_of new ≡ replayed_of old
-  -- the file is told to be full only where no checkpoint makes room for the request's record: it takes more than two slots, or
+  -- the file is told to be full only where no checkpoint makes room for the request's record: it takes more than eight slots, or
   -- behind the call its number would be past the last, or the half in use has no room for it and a checkpoint finds too few free
   -- pages or no number for its root
   pub full : result ≡ Err F.FileFull → IsFullFor new (lent_of old) name request

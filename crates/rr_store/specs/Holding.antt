@@ -70,7 +70,7 @@ HasNoRoom store name request = log.HasNoRoom (log.place_of store.journal.file) (
 abbrev pub HasNoneBegun : {D : Type 0} → Store D → Type 0
 HasNoneBegun store = log.HasNoneBegun (log.place_of store.journal.file)
 
--- No checkpoint makes room for the record of this request: it takes more than two slots, or its number would be past the last,
+-- No checkpoint makes room for the record of this request: it takes more than eight slots, or its number would be past the last,
 -- or the half in use has no room for it and a checkpoint of what is lent finds too few free pages or no number for its root.
 abbrev pub IsFullFor : {D : Type 0} → Store D → Lent → List ℕ → Request Command → Type 0
 IsFullFor store lent name request =

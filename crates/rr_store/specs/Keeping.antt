@@ -106,8 +106,8 @@ pub record Keeping {D : Type 0} (Honest Works : D → Type 0) (state : D → Dis
   pub again : IsErrOf result F.OpenAgain ↔ IsTrue (is_broken old)
   pub untouched : IsErrOf result F.OpenAgain → new ≡ old
   pub broken : is_broken new ≡ ends_broken result
-  -- the file is full only where the record takes more than two slots, or where behind the call its number would be past the
-  -- last, or the half in use has no room for it and a checkpoint finds too few free pages or no number for its root; that a half
+  -- the file is full only where the record takes more than eight slots, or where behind the call its number would be past
+  -- the last, or the half in use has no room for it and a checkpoint finds too few free pages or no number for its root; that a half
   -- is full is never told
   pub full : IsErrOf result F.FileFull → IsTooLong (length bytes) ⊎ MeetsFullFile new lent (length bytes)
   pub room : IsErrOf result F.HalfFull → ⊥

@@ -30,7 +30,7 @@ pub enum Fault {
     /// The device failed. Whether the request under way was taken is known when the file is opened again.
     #[error("device failed")]
     DeviceFailed,
-    /// A record takes more than two slots, fewer pages are free than a checkpoint needs, or a number would be past the
+    /// A record takes more than eight slots, fewer pages are free than a checkpoint needs, or a number would be past the
     /// last.
     #[error("file full")]
     FileFull,

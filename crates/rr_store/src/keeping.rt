@@ -11,7 +11,7 @@ use rr_tables::records::TableRules;
 use rr_words::Name;
 
 /// Keeps a record. Where the half in use has no room for it, a checkpoint under way is ended first. Then the next one,
-/// which begins with the second attempt, makes room, unless the record takes more than two slots.
+/// which begins with the second attempt, makes room, unless the record takes more than eight slots.
 pub(crate) fn keep_record<D: Disk + Drop, T: TablesInWords>(
     file: &mut Log<D, TableRules>,
     tables: &T,

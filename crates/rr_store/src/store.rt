@@ -65,7 +65,7 @@ impl<D: Disk + Drop> Store<D> {
     /// `OpenAgain` first, where the device failed before. Then what refuses the request: for an opening `StaleStamp`
     /// and `TooManyTables`; for another request `NoSuchTable`, `StaleStamp`, `TooManyCommands`, and then `TurnNotKept`
     /// for one that takes the table back or forgets, or what the game refuses. Then `OutOfMemory`, and `FileFull` where
-    /// the request's record takes more than two slots, where its number would be 2^63 - 1 or more, or where the half in
+    /// the request's record takes more than eight slots, where its number would be 2^63 - 1 or more, or where the half in
     /// use has no room for it and a checkpoint finds too few free pages or no number for its root. After `DeviceFailed`
     /// the request may be in the file or not, and the store is broken.
     pub fn commit(

@@ -33,7 +33,7 @@ use Rattle.rr_routes.specs.Sheets.Certificate.{certificate_text, word_text, word
 use Rattle.rr_routes.specs.Sheets.Sheet.{links_text, text_of, train_text}
 use Rattle.rr_routes.proofs.Elements.{Contains-here, Contains-nil, Contains-there, length_within, sum_by-map}
 use Rattle.rr_routes.proofs.Walks.{Joins-at_from, Walk-Joins, Walk-in_net, Walk-touched}
-use Rattle.rr_search.specs.BestRun.Lengths.{FewLinksFit, HasFewLinks, NineLinksNeverLack, OnlyLargeTreesLack}
+use Rattle.rr_search.specs.BestRun.Lengths.{ElevenLinksNeverLack, FewLinksFit, HasFewLinks, OnlyLargeTreesLack}
 use Rattle.rr_search.specs.BestRun.Worded.{HasLargeTree, HasLongRun, MayLackRun, command_text}
 use Rattle.rr_search.specs.Whole.{whole_size}
 
@@ -54,8 +54,8 @@ added_length : (words : List ℕ) → length (added words) ≤ length words + 1
 added_length [] = omega arith
 added_length (c ∷ rest) = omega arith
 
-three_digits : (n : ℕ) → n < 1000 → length (decimal n) ≤ 3
-three_digits n small = length-decimal-le 3 n (omega arith) small (omega (arith, small))
+four_digits : (n : ℕ) → n < 10000 → length (decimal n) ≤ 4
+four_digits n small = length-decimal-le 4 n (omega arith) small (omega (arith, small))
 
 one_digit : (n : ℕ) → n < 10 → length (decimal n) ≤ 1
 one_digit n small = length-decimal-le 1 n (omega arith) small (omega (arith, small))
@@ -157,17 +157,17 @@ module _ (net : Net) where
 -- the words of a sheet
 
 abbrev AreShort : List ℕ → Type 0
-AreShort links = (link : ℕ) → Contains links link → suc link < 1000
+AreShort links = (link : ℕ) → Contains links link → suc link < 10000
 
-numbers_length : (links : List ℕ) → AreShort links → sum_by sized (map decimal (map suc links)) ≤ 4 * length links
+numbers_length : (links : List ℕ) → AreShort links → sum_by sized (map decimal (map suc links)) ≤ 5 * length links
 numbers_length [] short = omega arith
 numbers_length (link ∷ links) short =
-    let first = three_digits (suc link) (short link (Contains-here link links)) in
+    let first = four_digits (suc link) (short link (Contains-here link links)) in
     let rest = numbers_length links (λ l c. short l (Contains-there link links l c)) in
     let whole = sum_by-cons sized (decimal (suc link)) (map decimal (map suc links)) in
     omega (arith, first, rest, whole)
 
-links_length : (links : List ℕ) → AreShort links → length (links_text (map suc links)) ≤ 4 * length links + 1
+links_length : (links : List ℕ) → AreShort links → length (links_text (map suc links)) ≤ 5 * length links + 1
 links_length [] short = omega arith
 links_length (link ∷ links) short =
     let joined = joined_length 45 (decimal (suc link)) (map decimal (map suc links)) in
@@ -186,7 +186,7 @@ kind_length K.Diesel = refl
 abbrev train_size : TrainWord → ℕ
 train_size word = length (train_text word) + 1
 
-train_length : (word : TrainWord) (links : List ℕ) → word.links ≡ map suc links → AreShort links → train_size word ≤ 4 * length links + 4
+train_length : (word : TrainWord) (links : List ℕ) → word.links ≡ map suc links → AreShort links → train_size word ≤ 5 * length links + 4
 train_length word links numbers short =
     let named : length (links_text word.links) ≡ length (links_text (map suc links)) = ap (λ (ns : List ℕ). length (links_text ns)) numbers in
     let few = links_length links short in
@@ -196,7 +196,7 @@ train_length word links numbers short =
 
 sheet_length : (sheet : List TrainWord) (run : List Trip) → length sheet ≡ length run
     → ((train : ℕ) (word : TrainWord) → slice_get sheet train ≡ Some word → word.links ≡ map suc (trip_of run train).links)
-    → ((train : ℕ) → AreShort (trip_of run train).links) → sum_by train_size sheet ≤ 4 * length (all_links run) + 4 * length sheet
+    → ((train : ℕ) → AreShort (trip_of run train).links) → sum_by train_size sheet ≤ 5 * length (all_links run) + 4 * length sheet
 sheet_length [] run same numbers short = omega arith
 sheet_length (word ∷ sheet) [] same numbers short = absurd (omega (arith, same))
 sheet_length (word ∷ sheet) (trip ∷ run) same numbers short =
@@ -247,8 +247,8 @@ module _ (net : Net) (claim : ℕ) (few : HasFewLinks net) where
         | inr past ↦ let denied : fate_of fates link ≡ Denied = get_or_past fates link Denied (omega (arith, long, past)) in cc
       ]
 
-  split_size : (link : ℕ) → link < length net.links → word_size (W.Split (link + 1)) ≤ 5
-  split_size link inside = let digits = three_digits (link + 1) (omega (arith, inside, few.together)) in omega (arith, digits)
+  split_size : (link : ℕ) → link < length net.links → word_size (W.Split (link + 1)) ≤ 6
+  split_size link inside = let digits = four_digits (link + 1) (omega (arith, inside, few.together)) in omega (arith, digits)
 
   bad_size : (train : ℕ) → train < length net.trains → word_size (W.Bad (train + 1)) ≤ 3
   bad_size train inside = let digits = one_digit (train + 1) (omega (arith, inside, few.trains)) in omega (arith, digits)
@@ -256,10 +256,10 @@ module _ (net : Net) (claim : ℕ) (few : HasFewLinks net) where
   leaf_size : (word : CertWord) → sum_by word_size (word ∷ []) ≡ word_size word
   leaf_size word = let whole = sum_by-cons word_size word [] in omega (arith, whole)
 
-  -- five bytes a node, and where there are trains fewer than four, since no more than half of the nodes are splits
+  -- at most six bytes a node, and with trains fewer than five, since at most half of the nodes are splits
   mutual
     under_size : (fates : List Fate) (tree : CertTree) → length fates ≡ length net.links → AcceptsUnder net claim fates tree
-        → (tree_size tree ≤ 5 * node_count tree) × (1 ≤ length net.trains → tree_size tree + 1 ≤ 4 * node_count tree)
+        → (tree_size tree ≤ 6 * node_count tree) × (1 ≤ length net.trains → tree_size tree + 1 ≤ 5 * node_count tree)
     under_size fates Bound long accepted = let is = leaf_size W.Bound in (omega (arith, is), λ some. omega (arith, is))
     under_size fates (Bad train) long accepted =
         let is = leaf_size (W.Bad (train + 1)) in
@@ -270,15 +270,15 @@ module _ (net : Net) (claim : ℕ) (few : HasFewLinks net) where
         let first = split_size link (open_inside fates link long accepted.0) in
         let whole = sum_by-cons word_size (W.Split (link + 1)) (words_of_row row) in
         let rest = each_size fates link (choices net) row long accepted.1 in
-        let rest_five = rest.0 in
+        let rest_six = rest.0 in
         let counted = length-map-range_with_len Of 0 (length net.trains) in (
-          omega (arith, first, whole, rest_five),
-          λ some. let rest_four = rest.1 some in omega (arith, first, whole, rest_four, counted, some),
+          omega (arith, first, whole, rest_six),
+          λ some. let rest_five = rest.1 some in omega (arith, first, whole, rest_five, counted, some),
         )
 
     each_size : (fates : List Fate) (link : ℕ) (options : List Fate) {m : _} (row : Row_of-CertTree m) → length fates ≡ length net.links
         → AcceptsEach net claim fates link options row
-        → (row_size row ≤ 5 * row_count row) × (1 ≤ length net.trains → row_size row + length options ≤ 4 * row_count row)
+        → (row_size row ≤ 6 * row_count row) × (1 ≤ length net.trains → row_size row + length options ≤ 5 * row_count row)
     each_size fates link [] end_of-CertTree long each = (omega arith, λ some. omega arith)
     each_size fates link [] (more_of-CertTree child children) long each = absurd each
     each_size fates link (choice ∷ options) end_of-CertTree long each = absurd each
@@ -286,13 +286,13 @@ module _ (net : Net) (claim : ℕ) (few : HasFewLinks net) where
         let first = under_size (set fates link choice) child (length-set fates link choice ∙ long) each.0 in
         let rest = each_size fates link options children long each.1 in
         let both = sum_by-append word_size (words_of child) (words_of_row children) in
-        let first_five = first.0 in
-        let rest_five = rest.0 in (
-          omega (arith, first_five, rest_five, both),
+        let first_six = first.0 in
+        let rest_six = rest.0 in (
+          omega (arith, first_six, rest_six, both),
           λ some.
-              let first_four = first.1 some in
-              let rest_four = rest.1 some in
-              omega (arith, first_four, rest_four, both),
+              let first_five = first.1 some in
+              let rest_five = rest.1 some in
+              omega (arith, first_five, rest_five, both),
         )
 
 -- the words of a command
@@ -343,7 +343,7 @@ few_links_fit net c most few room long =
     let tree = long.tree in
     let small : node_count tree ≤ MOST_NODES = long.certified.accepted.small in
     let accepted = under_size net long.certified.revenue few (all_open net) tree (length-replicate (length net.links) Open) long.certified.accepted.shown in
-    let five = accepted.0 in
+    let six = accepted.0 in
     let named = few_links net run legal.is_run in
     let short : (train : ℕ) → AreShort (trip_of run train).links = λ train. inside_short train in
     let sheet = sheet_length long.sheet run legal.is_sheet.complete (λ train word at. (legal.is_sheet.each train word at).numbers) short in
@@ -355,11 +355,11 @@ few_links_fit net c most few room long =
     let trains = legal.is_run.complete in
     elim (cases_lt 0 (length net.trains)) [
       | inl some ↦
-          let four = accepted.1 (omega (arith, some)) in
-          omega (arith, small, four, named, sheet, words, nodes, whole, over, complete, trains, few.together, room)
+          let five = accepted.1 (omega (arith, some)) in
+          omega (arith, small, five, named, sheet, words, nodes, whole, over, complete, trains, few.together, room)
       | inr none ↦
           let nothing = no_links run (omega (arith, trains, none)) in
-          omega (arith, nothing, small, five, named, sheet, words, nodes, whole, over, complete, trains, few.together, room, none)
+          omega (arith, nothing, small, six, named, sheet, words, nodes, whole, over, complete, trains, few.together, room, none)
     ]
   where
     inside_short : (train : ℕ) → AreShort (trip_of long.certified.legal.run train).links
@@ -381,15 +381,15 @@ more_links fewer (suc links) less =
       | inr differ ↦ let before = more_links fewer links (omega (arith, less, differ)) in omega (arith, before)
     ]
 
-nine_links : whole_size 1 9 ≡ 1023
+eleven_links : whole_size 1 11 ≡ 4095
 unfolding whole_size
-nine_links = refl
+eleven_links = refl
 
-pub nine_links_never_lack : NineLinksNeverLack
-nine_links_never_lack net c most one nine room lacks =
-    let few : HasFewLinks net = record { together = omega (arith, one, nine); trains = omega (arith, one) } in
+pub eleven_links_never_lack : ElevenLinksNeverLack
+eleven_links_never_lack net c most one eleven room lacks =
+    let few : HasFewLinks net = record { together = omega (arith, one, eleven); trains = omega (arith, one) } in
     let large : MOST_NODES < whole_size (length net.trains) (length net.links) = only_large_trees_lack net c most few room lacks in
     let same = ap (λ trains. whole_size trains (length net.links)) one in
-    let nodes = more_links (length net.links) 9 nine in
-    let all = nine_links in
+    let nodes = more_links (length net.links) 11 eleven in
+    let all = eleven_links in
     omega (arith, large, same, nodes, all)

@@ -1,7 +1,7 @@
 //! What always holds of the nets of boards, and of nets of few links. The functions do nothing: a caller's proof cites
 //! what they ensure.
 ghost use Rattle.std.specs.Prelude.{List};
-ghost use Rattle.rr_search.specs.BestRun.Lengths.{FewLinksFit, NineLinksNeverLack, OnlyLargeTreesLack};
+ghost use Rattle.rr_search.specs.BestRun.Lengths.{ElevenLinksNeverLack, FewLinksFit, OnlyLargeTreesLack};
 ghost use Rattle.rr_search.specs.BestRun.Worded.{HasLegal};
 ghost use Rattle.rr_kit.specs.Board.Plan.{Plan};
 ghost use Rattle.rr_books.specs.Book.{Book};
@@ -15,11 +15,11 @@ pub fn trains_may_stay()
     ensures { (plan : Plan) (tiles : List Supply) (book : Book) (c : Corp) → (sheet : List TrainWord) × HasLegal (net_now plan tiles book c) sheet }
 {}
 
-/// On a net of at most 966 links and trains together, nine of them trains at most, no best run with its certificate is
-/// too long for a line of 8,000 bytes, whatever its stamp and its table's name. So there the search lacks a run only if
-/// the tree that splits every link has more than 1,024 nodes, and never with one train and at most nine links.
+/// On a net of at most 2,296 links and trains together, nine of them trains at most, no best run with its certificate is
+/// too long for a line of 32,000 bytes, whatever its stamp and its table's name. So there the search lacks a run only if
+/// the tree that splits every link has more than 4,096 nodes, and never with one train and at most eleven links.
 pub fn few_links_fit()
     ensures fit { FewLinksFit }
     ensures large_trees { OnlyLargeTreesLack }
-    ensures nine_links { NineLinksNeverLack }
+    ensures eleven_links { ElevenLinksNeverLack }
 {}

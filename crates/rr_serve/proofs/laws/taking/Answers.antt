@@ -5,8 +5,8 @@ use Rattle.rr_serve.proofs.laws.taking.Goals as goal
 
 pub returns-clause-whole : goal.returns-clause-whole
 unfolding taken
-returns-clause-whole c = λ line fits. take_all 8001 line (omega arith)
+returns-clause-whole c = λ line fits. take_all 32001 line (omega arith)
 
 pub returns-clause-too_long : goal.returns-clause-too_long
 unfolding taken
-returns-clause-too_long c = λ line long. length-take-le 8001 line (omega arith)
+returns-clause-too_long c = λ line long. length-take-le 32001 line (omega arith)

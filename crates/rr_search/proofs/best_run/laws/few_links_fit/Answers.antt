@@ -1,4 +1,4 @@
-use Rattle.rr_search.proofs.BestRunLemmas.Lengths.{few_links_fit, nine_links_never_lack, only_large_trees_lack}
+use Rattle.rr_search.proofs.BestRunLemmas.Lengths.{eleven_links_never_lack, few_links_fit, only_large_trees_lack}
 use Rattle.rr_search.proofs.best_run.laws.few_links_fit.Goals as goal
 
 pub returns-clause-fit : goal.returns-clause-fit
@@ -7,5 +7,5 @@ returns-clause-fit c = few_links_fit
 pub returns-clause-large_trees : goal.returns-clause-large_trees
 returns-clause-large_trees c = only_large_trees_lack
 
-pub returns-clause-nine_links : goal.returns-clause-nine_links
-returns-clause-nine_links c = nine_links_never_lack
+pub returns-clause-eleven_links : goal.returns-clause-eleven_links
+returns-clause-eleven_links c = eleven_links_never_lack

@@ -6,6 +6,6 @@ pub returns-clause-added : goal.returns-clause-added
 returns-clause-added c =
     let old = c.args.self.now in
     let bytes = c.args.bytes.now in
-    let fits : length old ≤ 8001 = omega (arith, ap length c.self.view_is, c.self.inside.bytes.ok.0, c.self.invariant) in
-    let pushed : c.extend_from_slice.new.self.items ≡ old ++ take (min (length bytes) (8001 - length old)) bytes = search rules in
+    let fits : length old ≤ 32001 = omega (arith, ap length c.self.view_is, c.self.inside.bytes.ok.0, c.self.invariant) in
+    let pushed : c.extend_from_slice.new.self.items ≡ old ++ take (min (length bytes) (32001 - length old)) bytes = search rules in
     pushed ∙ taken-room old bytes fits
