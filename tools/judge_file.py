@@ -9,7 +9,8 @@ from dataclasses import dataclass, field
 
 import game_bytes
 from game_bytes import is_player
-from store_file import FIRST_DATA, MOST_SLOTS, PAGE, SLOTS, USED, number_at, record_at, records_from, root_at, slots_for
+from store_file import FIRST_DATA, MOST_SLOTS, PAGE, SLOTS, USED, VERSIONS, bank_of, kit_at, names_bank, number_at, record_at
+from store_file import records_from, root_at, slots_for
 
 NOT_A_STORE = "no 64 not a store"
 LAST_NUMBER, LAST_STAMP = 2**63 - 1, 4_000_000_000
@@ -146,12 +147,15 @@ class Chains:
                 return None if full else text
 
 
-def directory_of(text):
-    """Where a directory says that the kit's texts are, its tables and snapshots; or None where it isn't of its form."""
-    if len(text) < 50:
+def directory_of(text, version):
+    """What a directory of this version says of the bank, where it says that the kit's texts are, its tables and snapshots; or None
+    if it isn't of its form."""
+    kit = kit_at(version)
+    if len(text) < kit + 50:
         return None
-    texts = [(number_at(text, 12 * place, 8), number_at(text, 12 * place + 8, 4)) for place in range(4)]
-    tables, at, count = [], 50, number_at(text, 48, 2)
+    bank = number_at(text, 0, 8) if kit else None
+    texts = [(number_at(text, kit + 12 * place, 8), number_at(text, kit + 12 * place + 8, 4)) for place in range(4)]
+    tables, at, count = [], kit + 50, number_at(text, kit + 48, 2)
     for _ in range(count):
         length = text[at] if at < len(text) else 0
         name, numbers = text[at + 1:at + 1 + length], at + 1 + length
@@ -164,7 +168,7 @@ def directory_of(text):
     own_names = len({it.name for it in tables}) == count <= MOST_TABLES
     short = all(length <= MOST_TEXT for _, length in texts)
     snapshots = snapshots_of(text[at:], tables)
-    return (texts, tables, snapshots) if lawful and own_names and short and snapshots is not None else None
+    return (bank, texts, tables, snapshots) if lawful and own_names and short and snapshots is not None else None
 
 
 def snapshots_of(text, tables):
@@ -196,7 +200,7 @@ def commands_of(text, count):
 def root_of(data):
     """The root that is taken. Clause 1 and the version are judged of each open one."""
     roots = [it for it in (root_at(data, 0), root_at(data, 1)) if it]
-    if not roots or any(it.version != 1 for it in roots):
+    if not roots or any(it.version not in VERSIONS for it in roots):
         return None
     for it in roots:
         numbers = it.number <= LAST_NUMBER and 1 <= it.first <= LAST_NUMBER
@@ -211,10 +215,10 @@ def tables_of(data, root, texts, games):
     """The tables that the chains of the root's directory spell, played."""
     chains = Chains(data, root.pages)
     directory = chains.read(root.directory)
-    named = directory_of(directory) if directory is not None else None
+    named = directory_of(directory, root.version) if directory is not None else None
     if named is None:
         raise Damaged(min(chains.broken, default=5))
-    of_texts, entries, snapshots = named
+    bank, of_texts, entries, snapshots = named
     found = [(chains.read(head), length) for head, length in of_texts]
     found += [(chains.read(it.head), it.length) for it in (*entries, *snapshots)]
     kept = [text is not None and commands_of(text, it.kept) for (text, _), it in zip(found[4:], entries)]
@@ -229,6 +233,11 @@ def tables_of(data, root, texts, games):
         raise Damaged(5)
     if [text for text, _ in found[:4]] != texts:
         raise NotKnown
+    # A directory of version 2 says the roster's bank; for one of version 1 a roster that names a bank is wrong.
+    if bank is not None and bank != bank_of(texts[1]):
+        raise Damaged(5)
+    if bank is None and names_bank(texts[1]):
+        raise Damaged(6)
     # Whatever game a snapshot shows, no table keeps other words than a command's.
     if not all(form_of(it) in ("open", "play") for words in kept for it in words):
         raise Damaged(7)

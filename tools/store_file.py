@@ -1,8 +1,10 @@
 """A store's file, read and written by docs/FORMATS.md, without the program."""
+import tomllib
 from dataclasses import dataclass, field
 
 PAGE, OPEN, SHUT = 4096, 0xA5, 0
 FIRST_DATA, USED = 514, 4086
+VERSIONS, NEWEST, USUAL_BANK = (1, 2), 2, 12_000
 # The first page of each half of the journal, how many of its slots hold records, and how many a record takes at most.
 HALVES, SLOTS, MOST_SLOTS = (2, 258), 255, 8
 
@@ -15,7 +17,7 @@ class Root:
     half: int
     first: int
     pages: int
-    version: int = 1
+    version: int
 
 
 @dataclass
@@ -38,10 +40,11 @@ class Snapshot:
 
 @dataclass
 class Store:
-    """What a file says: the root that is taken, the texts, the tables in its chains and snapshots of their games, and the records
-    of both halves."""
+    """What a file says: the root that is taken, what its directory says of the bank, the texts, the tables in its chains and
+    snapshots of their games, and the records of both halves."""
 
     root: Root
+    bank: int | None
     texts: list
     tables: list
     snapshots: list
@@ -66,6 +69,29 @@ def spelled(number, count):
     return number.to_bytes(count, "big")
 
 
+def keys_of(roster):
+    """The keys of a roster's text; none of one that isn't TOML."""
+    try:
+        return tomllib.loads(roster.decode())
+    except (UnicodeDecodeError, tomllib.TOMLDecodeError):
+        return {}
+
+
+def names_bank(roster):
+    """Whether the text of a roster names a bank."""
+    return "bank" in keys_of(roster)
+
+
+def bank_of(roster):
+    """What the bank begins with, by the text of a roster."""
+    return keys_of(roster).get("bank", USUAL_BANK)
+
+
+def kit_at(version):
+    """The place in a directory of this version at which the chains of the texts are named: behind the bank, if it says one."""
+    return 0 if version == 1 else 8
+
+
 def slots_for(length):
     return (13 + length + PAGE - 1) // PAGE
 
@@ -81,6 +107,11 @@ def root_at(data, side):
         return None
     fields = ((1, 8), (9, 8), (17, 1), (18, 8), (26, 8), (34, 2))
     return Root(side, *(number_at(data, at + place, count) for place, count in fields))
+
+
+def root_of(data):
+    """The root that is taken: of those that are open the one of greater number."""
+    return max((it for it in (root_at(data, 0), root_at(data, 1)) if it), key=lambda it: it.number)
 
 
 def records_from(data, half, number):
@@ -120,12 +151,13 @@ def chain_at(data, head, reached):
 
 def read(data):
     """What a file says that breaks no clause of its form."""
-    root = max((it for it in (root_at(data, 0), root_at(data, 1)) if it), key=lambda it: it.number)
-    reached = []
+    root, reached = root_of(data), []
     directory = chain_at(data, root.directory, reached)
-    texts = [chain_at(data, number_at(directory, 12 * place, 8), reached) for place in range(4)]
-    tables, at = [], 50
-    for _ in range(number_at(directory, 48, 2)):
+    kit = kit_at(root.version)
+    bank = number_at(directory, 0, 8) if kit else None
+    texts = [chain_at(data, number_at(directory, kit + 12 * place, 8), reached) for place in range(4)]
+    tables, at = [], kit + 50
+    for _ in range(number_at(directory, kit + 48, 2)):
         name = directory[at + 1:at + 1 + directory[at]].decode()
         at += 1 + directory[at]
         stamp, floor = number_at(directory, at, 8), number_at(directory, at + 8, 4)
@@ -140,7 +172,7 @@ def read(data):
         reached += pages
     near = records_in(data, root.half, root.first)
     far = records_in(data, 1 - root.half, root.first + len(near))
-    return Store(root, texts, tables, snapshots, near, far, reached)
+    return Store(root, bank, texts, tables, snapshots, near, far, reached)
 
 
 def kept_in(text, count):
@@ -175,10 +207,11 @@ class Pages:
         return spelled(self.chain(text), 8) + spelled(len(text), 4)
 
 
-def written(texts, tables, first=1, snapshots=()):
-    """A file with these texts, tables and snapshots, whose first record is to have this number."""
+def written(texts, tables, first=1, snapshots=(), version=NEWEST):
+    """A file of a version, with these texts, tables and snapshots, whose first record is to have this number."""
     pages = Pages()
-    directory = b"".join(pages.named(text) for text in texts) + spelled(len(tables), 2)
+    directory = spelled(bank_of(texts[1]), 8) if kit_at(version) else b""
+    directory += b"".join(pages.named(text) for text in texts) + spelled(len(tables), 2)
     for table in tables:
         kept = b"".join(spelled(len(words), 2) + words.encode() for words in table.kept)
         name = spelled(len(table.name), 1) + table.name.encode()
@@ -188,5 +221,5 @@ def written(texts, tables, first=1, snapshots=()):
     for it in snapshots:
         directory += spelled(it.table, 2) + spelled(it.kept, 4) + pages.named(it.bytes)
     head = pages.chain(directory)
-    root = bytes([OPEN]) + spelled(1, 8) + spelled(head, 8) + bytes([0]) + spelled(first, 8) + spelled(pages.next(), 8) + spelled(1, 2)
+    root = bytes([OPEN]) + spelled(1, 8) + spelled(head, 8) + bytes([0]) + spelled(first, 8) + spelled(pages.next(), 8) + spelled(version, 2)
     return root.ljust(PAGE * FIRST_DATA, b"\0") + pages.laid

@@ -16,15 +16,18 @@ use std::alloc::Global;
 // Room for a file of 519 pages, and for the calls of a test.
 const ROOM: usize = 1 << 23;
 
-// A root: its open gate, number 1, its directory on page 518, half 0, first record 1, 519 pages, version 1.
+// What the directory says of the bank.
+const BANK: Option<u64> = Some(12_000);
+
+// A root: its open gate, number 1, its directory on page 518, half 0, first record 1, 519 pages, version 2.
 const ROOT: &[u8] = b"\xa5\0\0\0\0\0\0\0\x01\0\0\0\0\0\0\x02\x06\0\0\0\0\0\0\0\0\x01\
-\0\0\0\0\0\0\x02\x07\0\x01";
+\0\0\0\0\0\0\x02\x07\0\x02";
 
 // Rules by which no record is lawful, and no bytes show a game. They have no code.
 struct NoRecords;
 
 impl Rules for NoRecords {
-    ghost rules = { record { takes = λ line old new. ⊥; shows = λ world commands bytes. ⊥ } };
+    ghost rules = { record { takes = λ line old new. ⊥; shows = λ world commands bytes. ⊥; banks = λ text bank. Unit {0} } };
 }
 
 // The calls below have almost no contracts, so that what a test does costs its proof little.
@@ -35,7 +38,7 @@ fn laid(alloc: Global, count: usize) -> Result<(usize, u64), Fault> {
     if chart.len() > 65536 {
         return Err(Fault::FileFull);
     }
-    let file = new_file::<NoRecords>(alloc, NEWEST, &chart, b"r", b"", b"b")?;
+    let file = new_file::<NoRecords>(alloc, NEWEST, BANK, &chart, b"r", b"", b"b")?;
     Ok((file.fresh.len(), file.root.pages))
 }
 
@@ -50,7 +53,9 @@ fn format_short(alloc: Global, disk: &mut MemoryDisk) -> Result<(), Fault> {
     if disk.len() != 0 {
         return Err(Fault::NotAStore);
     }
-    format::<NoRecords, MemoryDisk>(alloc, disk, b"chart", b"roster", b"tiles", b"board")
+    format::<NoRecords, MemoryDisk>(
+        alloc, disk, NEWEST, BANK, b"chart", b"roster", b"tiles", b"board",
+    )
 }
 
 // Lays the same file first, and then writes it.
@@ -58,7 +63,7 @@ fn write_short(alloc: Global, disk: &mut MemoryDisk) -> Result<(), Fault> {
     if disk.len() != 0 {
         return Err(Fault::NotAStore);
     }
-    let file = new_file::<NoRecords>(alloc, NEWEST, b"chart", b"roster", b"tiles", b"board")?;
+    let file = new_file::<NoRecords>(alloc, NEWEST, BANK, b"chart", b"roster", b"tiles", b"board")?;
     write_new_file::<NoRecords, MemoryDisk>(disk, &file)?;
     Ok(())
 }

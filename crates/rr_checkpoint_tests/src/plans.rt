@@ -22,7 +22,7 @@ use std::test::Fail;
 struct AnyGame;
 
 impl Rules for AnyGame {
-    ghost rules = { record { takes = λ line old new. ⊥; shows = λ world commands bytes. Unit {0} } };
+    ghost rules = { record { takes = λ line old new. ⊥; shows = λ world commands bytes. Unit {0}; banks = λ text bank. Unit {0} } };
 }
 
 // The page of a table's chain: no next page, 17 bytes used, and its two commands.
@@ -37,10 +37,11 @@ const REST: &[u8] = b"\0\0\0\0\0\0\0\0\0\x012\0";
 
 const THIRD: &[u8] = b"\0\0\0\0\0\0\0\0\0\x05three\0";
 
-// The page of the directory: no next page, 168 bytes used, the texts on pages 514 to 517, two tables of stamp 2, floor 0
-// and 2 kept commands, on pages 520 and 521, and three snapshots: of 1 and of 2 commands of the first table, on page 522
-// and from page 523 on, and of 1 command of the second, on page 525.
-const DIRECTORY: &[u8] = b"\0\0\0\0\0\0\0\0\0\xa8\
+// The page of the directory: no next page, 176 bytes used, a bank of 12,000, the texts on pages 514 to 517, two tables
+// of stamp 2, floor 0 and 2 kept commands, on pages 520 and 521, and three snapshots: of 1 and of 2 commands of the
+// first table, on page 522 and from page 523 on, and of 1 command of the second, on page 525.
+const DIRECTORY: &[u8] = b"\0\0\0\0\0\0\0\0\0\xb0\
+\0\0\0\0\0\0\x2e\xe0\
 \0\0\0\0\0\0\x02\x02\0\0\0\x05\0\0\0\0\0\0\x02\x03\0\0\0\x06\
 \0\0\0\0\0\0\x02\x04\0\0\0\x05\0\0\0\0\0\0\x02\x05\0\0\0\x05\0\x02\
 \x02g1\0\0\0\0\0\0\0\x02\0\0\0\0\0\0\0\x02\0\0\0\0\0\0\x02\x08\0\0\0\x11\
@@ -50,7 +51,8 @@ const DIRECTORY: &[u8] = b"\0\0\0\0\0\0\0\0\0\xa8\
 \0\x01\0\0\0\x01\0\0\0\0\0\0\x02\x0d\0\0\0\x05\0";
 
 // The same where the last snapshot stays on page 519, where it stands.
-const KEEPING: &[u8] = b"\0\0\0\0\0\0\0\0\0\xa8\
+const KEEPING: &[u8] = b"\0\0\0\0\0\0\0\0\0\xb0\
+\0\0\0\0\0\0\x2e\xe0\
 \0\0\0\0\0\0\x02\x02\0\0\0\x05\0\0\0\0\0\0\x02\x03\0\0\0\x06\
 \0\0\0\0\0\0\x02\x04\0\0\0\x05\0\0\0\0\0\0\x02\x05\0\0\0\x05\0\x02\
 \x02g1\0\0\0\0\0\0\0\x02\0\0\0\0\0\0\0\x02\0\0\0\0\0\0\x02\x08\0\0\0\x11\
@@ -108,6 +110,7 @@ fn kit(alloc: Global) -> Result<KitPages, AllocError> {
         roster: text(alloc, 515, 6)?,
         tiles: text(alloc, 516, 5)?,
         board: text(alloc, 517, 5)?,
+        bank: 12_000,
     })
 }
 

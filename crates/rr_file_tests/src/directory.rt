@@ -85,6 +85,7 @@ fn spelled(
     snapshots: &[SnapshotEntry],
 ) -> Option<Vec<u8>> {
     let dir = Dir {
+        bank: None,
         kit: kit(board),
         tables: entries(alloc, tables)?,
         snapshots: snapshots.to_vec(alloc).ok()?,
@@ -281,9 +282,36 @@ fn directories_past_a_limit_are_damaged(rt: HostRuntime) {
     check_damaged(&rt, alloc, spelled(alloc, 3, &TOO_MANY, &[]));
 }
 
+// A bank of 2,400 in eight bytes.
+const BANK: &[u8] = b"\0\0\0\0\0\0\x09\x60";
+
+// The bank that is read of a directory of version 2, and whether it is written as it was read.
+fn banked(alloc: Global, bytes: &[u8]) -> Option<(Option<u64>, bool)> {
+    let dir = Dir::read(alloc, Version::Two, bytes).ok()?;
+    let mut written = Vec::new(alloc);
+    if dir.tables.len() >= 65_536 || dir.snapshots.len() >= 65_536 {
+        return None;
+    }
+    dir.write(Version::Two, &mut written).ok()?;
+    Some((dir.bank, written.as_slice() == bytes))
+}
+
+// In version 2 the bank stands before what version 1 has.
+#[test]
+fn a_directory_of_version_2_begins_with_the_bank(rt: HostRuntime) {
+    let alloc = rt.alloc();
+    let bytes = lengthened(alloc, BANK, WITH_SNAPSHOTS).expect(&rt, "a directory");
+    assert!(rt; banked(alloc, &bytes) == Some((Some(2_400), true)));
+    assert!(rt; banked(alloc, WITH_SNAPSHOTS).is_none());
+    assert!(rt; banked(alloc, front(&bytes, 7)).is_none());
+    let unbanked = read(alloc, WITH_SNAPSHOTS).expect(&rt, "a directory");
+    assert!(rt; unbanked.bank.is_none());
+}
+
 #[test]
 fn versions_have_their_numbers(rt: HostRuntime) {
     assert!(rt; matches!(Version::of(1), Some(Version::One)));
-    assert!(rt; Version::of(2).is_none());
-    assert!(rt; Version::One.number() == 1);
+    assert!(rt; matches!(Version::of(2), Some(Version::Two)));
+    assert!(rt; Version::of(0).is_none() && Version::of(3).is_none());
+    assert!(rt; [Version::One.number(), Version::Two.number()] == [1, 2]);
 }

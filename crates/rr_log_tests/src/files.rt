@@ -8,7 +8,7 @@ use rr_log::formatting::format;
 use rr_log::opening::{Opened, open_file};
 use rr_pages::journal::RecordBuffer;
 use rr_pages::{FreePages, ReachedPages, ReadChain};
-use rr_reading::dir::{ChainRef, KitChains};
+use rr_reading::dir::{ChainRef, KitChains, NEWEST};
 use rr_reading::worlds::Worlds;
 use rr_reading::{Fault, KitTexts};
 use std::alloc::{AllocError, Global};
@@ -36,7 +36,16 @@ fn format_short(alloc: Global, disk: &mut MemoryDisk) -> Result<(), rr_pages::Fa
     if disk.len() != 0 {
         return Err(rr_pages::Fault::NotAStore);
     }
-    format::<AnyLine, MemoryDisk>(alloc, disk, b"chart", b"roster", b"tiles", b"board")
+    format::<AnyLine, MemoryDisk>(
+        alloc,
+        disk,
+        NEWEST,
+        Some(12_000),
+        b"chart",
+        b"roster",
+        b"tiles",
+        b"board",
+    )
 }
 
 pub(crate) fn write(disk: &mut MemoryDisk, at: u64, bytes: &[u8]) -> Result<(), rr_disk::Fault> {
@@ -111,6 +120,7 @@ fn kit_pages(kit: &KitChains, texts: KitTexts) -> KitPages {
         roster: text_pages(kit.roster, roster),
         tiles: text_pages(kit.tiles, tiles),
         board: text_pages(kit.board, board),
+        bank: 12_000,
     }
 }
 

@@ -15,7 +15,7 @@ use std::test::Fail;
 pub(crate) struct AnyLine;
 
 impl Rules for AnyLine {
-    ghost rules = { record { takes = λ line old new. Unit {0}; shows = λ world commands bytes. ⊥ } };
+    ghost rules = { record { takes = λ line old new. Unit {0}; shows = λ world commands bytes. ⊥; banks = λ text bank. Unit {0} } };
 }
 
 // A table of stamp 2 and floor 0 that keeps two commands.

@@ -14,9 +14,10 @@ use std::test::Fail;
 // before it.
 const CHAIN: &[u8] = b"\0\0\0\0\0\0\0\0\0\x11\0\x08open a b\0\x05buy a";
 
-// The page of the directory: no next page, 81 bytes used, the texts on pages 514 to 517, and one table of stamp 2,
-// floor 0 and 2 kept commands, on page 519.
-const DIRECTORY: &[u8] = b"\0\0\0\0\0\0\0\0\0\x51\
+// The page of the directory: no next page, 89 bytes used, a bank of 12,000, the texts on pages 514 to 517, and one table
+// of stamp 2, floor 0 and 2 kept commands, on page 519.
+const DIRECTORY: &[u8] = b"\0\0\0\0\0\0\0\0\0\x59\
+\0\0\0\0\0\0\x2e\xe0\
 \0\0\0\0\0\0\x02\x02\0\0\0\x05\0\0\0\0\0\0\x02\x03\0\0\0\x06\
 \0\0\0\0\0\0\x02\x04\0\0\0\x05\0\0\0\0\0\0\x02\x05\0\0\0\x05\0\x01\
 \x02g1\0\0\0\0\0\0\0\x02\0\0\0\0\0\0\0\x02\0\0\0\0\0\0\x02\x07\0\0\0\x11";
@@ -76,7 +77,7 @@ fn has_two_pages(plan: &Plan) -> bool {
 #[test]
 fn a_plan_lays_the_table_and_then_the_directory(rt: HostRuntime) -> Result<(), Fail> {
     let plan = first_plan(rt.alloc())?;
-    assert!(rt; root_of(&plan) == (2, 520, HalfIndex::Second, 1, 521, 1));
+    assert!(rt; root_of(&plan) == (2, 520, HalfIndex::Second, 1, 521, 2));
     assert!(rt; has_two_pages(&plan));
     Ok(())
 }

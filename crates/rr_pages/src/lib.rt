@@ -32,4 +32,4 @@ pub use page::{FIRST_DATA, LEAST_PAGES, LINK_BYTES, MOST_PAGES, MOST_USED, OPEN,
 pub use page_set::PageSet;
 pub use reached_pages::ReachedPages;
 pub use reading::{FollowedChain, Link, ReadChain, chain_follow, read_pieces};
-pub use root::{NEWEST_VERSION, ROOT_BYTES, Root, Roots};
+pub use root::{FIRST_VERSION, NEWEST_VERSION, ROOT_BYTES, Root, Roots};

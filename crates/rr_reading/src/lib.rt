@@ -3,8 +3,8 @@
 //! Also the worlds that such files spell, in words (`worlds`), and chains that lend their bytes (`lending`).
 //!
 //! Stands on `rr_images` and `rr_pages`. Its promise: `read_file` returns exactly what the file holds, or the least of
-//! clauses 1 to 5 that it breaks (`Reads`). A directory has one spelling. What a checkpoint writes is read back as the
-//! same world.
+//! clauses 1 to 5 that it breaks (`Reads`). In each of its two versions a directory has one spelling. What a checkpoint
+//! writes is read back as the same world.
 #![tactic(auto)]
 
 mod chains;

@@ -2,7 +2,7 @@
 //! little.
 use rr_code::read_record;
 use rr_disk::{Disk, FaultyDisk, MemoryDisk};
-use rr_store::{Fault, Refused, Store, Table, Texts, Tick, format, open};
+use rr_store::{Fault, Refused, Store, Table, Texts, Tick, format_as, open};
 use rr_words::Name;
 use std::alloc::Global;
 use std::process::Abort;
@@ -44,14 +44,14 @@ fn texts() -> Texts<'static> {
     }
 }
 
-fn format_new(alloc: Global, disk: &mut MemoryDisk) -> Result<(), Fault> {
-    format(alloc, disk, texts())
+fn format_new(alloc: Global, disk: &mut MemoryDisk, version: u16) -> Result<(), Fault> {
+    format_as(alloc, disk, texts(), version)
 }
 
-/// The bytes of a new file.
-pub(crate) fn new_file(rt: &(impl Abort + AllocGlobal)) -> Vec<u8> {
+/// The bytes of a new file of a version.
+pub(crate) fn new_file(rt: &(impl Abort + AllocGlobal), version: u16) -> Vec<u8> {
     let mut disk = disk_with(rt, b"");
-    format_new(rt.alloc(), &mut disk).expect(rt, "room");
+    format_new(rt.alloc(), &mut disk, version).expect(rt, "room");
     content(&disk).to_vec(rt.alloc()).expect(rt, "memory")
 }
 

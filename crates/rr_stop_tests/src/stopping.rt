@@ -1,6 +1,6 @@
 //! Stops and failures at each device call of a run of 525 commands on three tables, through four checkpoints, the last
 //! of which drops a snapshot: whatever the disk keeps, an opening gives the acknowledged commands, and perhaps the one
-//! under way.
+//! under way. The same holds in the first checkpoint of a file of version 1, which writes version 2.
 mod images;
 mod judging;
 mod lines;
@@ -9,11 +9,12 @@ mod runs;
 mod schedule;
 mod worlds;
 
+use crate::files::{content, disk_of, disk_with, open_store};
 use crate::stopping::images::{check_failures, check_stop, stop_behind};
 use crate::stopping::judging::{Seen, judged};
 use crate::stopping::lines::{Line, all_lines, world_of};
 use crate::stopping::openings::{check_openings, check_whole};
-use crate::stopping::runs::{Plan, whole_plan};
+use crate::stopping::runs::{Plan, run, whole_plan};
 use rr_store::Fault;
 use std::process::Abort;
 
@@ -68,6 +69,9 @@ pub(crate) fn first_wrong(all: &[Told]) -> Told {
     Ok(())
 }
 
+// The number of the version that is written.
+const NEWEST: u16 = 2;
+
 // So many tests share the calls out. (Most commits make four, so that each test has all kinds.)
 const PARTS: usize = 11;
 
@@ -82,12 +86,48 @@ fn check_calls(rt: &(impl Abort + AllocGlobal), plan: &Plan, part: usize) {
     }
 }
 
+// The calls of the six commands before which a step of the first checkpoint is made, of the last one before them, and of
+// the first one after them. The 128 commands before make four calls each, and a step two.
+const FIRST_CHECKPOINT: [usize; 2] = [508, 552];
+
+// Stops and failures while a file of version 1 becomes one of version 2.
+fn check_first_checkpoint(rt: &(impl Abort + AllocGlobal)) {
+    let plan = whole_plan(rt, 1);
+    for calls in FIRST_CHECKPOINT[0]..FIRST_CHECKPOINT[1] {
+        let stop = stop_behind(&plan.schedule.events, calls);
+        check_stop(rt, &plan, &stop);
+        check_failures(rt, &plan, &stop);
+    }
+}
+
+#[test]
+fn stops_and_failures_while_a_file_changes_its_version(rt: HostRuntime) {
+    check_first_checkpoint(&rt);
+}
+
+// The versions of both roots after the whole run on a file of a version: the last byte of each.
+fn versions_behind(rt: &(impl Abort + AllocGlobal), version: u16) -> [Option<u8>; 2] {
+    let plan = whole_plan(rt, version);
+    let mut store = open_store(rt, disk_with(rt, &plan.file), 0);
+    let (_, told) = run(&mut store, &plan);
+    check(rt, 0, told);
+    let disk = disk_of(store);
+    let file = content(&disk);
+    [file.get(35).copied(), file.get(4096 + 35).copied()]
+}
+
+#[test]
+fn checkpoints_write_version_2(rt: HostRuntime) {
+    let versions = [versions_behind(&rt, 1), versions_behind(&rt, 2)];
+    assert!(rt; versions == [[Some(2); 2]; 2]);
+}
+
 fn check_part(rt: &(impl Abort + AllocGlobal), part: usize) {
-    check_calls(rt, &whole_plan(rt), part);
+    check_calls(rt, &whole_plan(rt, NEWEST), part);
 }
 
 fn judged_files(rt: &(impl Abort + AllocGlobal)) -> [Seen; 6] {
-    judged(rt, &whole_plan(rt))
+    judged(rt, &whole_plan(rt, NEWEST))
 }
 
 #[test]
@@ -106,7 +146,7 @@ fn wrong_files_are_seen(rt: HostRuntime) {
 }
 
 fn whole_run(rt: &(impl Abort + AllocGlobal)) -> (usize, usize) {
-    let plan = whole_plan(rt);
+    let plan = whole_plan(rt, NEWEST);
     check_whole(rt, &plan);
     (plan.schedule.begun, plan.schedule.calls.len())
 }
@@ -140,7 +180,7 @@ fn the_last_checkpoint_drops_a_snapshot(rt: HostRuntime) {
 }
 
 fn check_each_opening(rt: &(impl Abort + AllocGlobal)) {
-    check_openings(rt, &whole_plan(rt));
+    check_openings(rt, &whole_plan(rt, NEWEST));
 }
 
 #[test]

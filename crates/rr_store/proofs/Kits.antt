@@ -1,5 +1,7 @@
 -- Texts of a right kit aren't wrong.
-use Rattle.std.proofs.Common.{◌≡◌, ◌≢◌, inl, inr, subst, arith, Err}
+use Rattle.std.proofs.Common.{◌≡◌, ◌≢◌, ℕ, Option, None, Some, inl, inr, subst, arith, Err}
+use Rattle.rr_tables.specs.Records.Taking.{SaysBank}
+use Rattle.rr_store.specs.Recovery.Telling.{IsWrongFor}
 use Rattle.std.proofs.lemmas.Str.{IsUtf8-from_ascii}
 use Rattle.rr_kit.specs.declared.board.fault.Fault.TheVariants as B
 use Rattle.rr_roster.specs.declared.chart.fault.Fault.TheVariants as H
@@ -47,3 +49,9 @@ right_is_not_wrong texts kit right (fault, other, inl why) = no_chart texts kit 
 right_is_not_wrong texts kit right (fault, other, inr (inl why)) = no_roster texts kit right fault other why.1
 right_is_not_wrong texts kit right (fault, other, inr (inr (inl why))) = no_manifest texts kit right fault other why.1
 right_is_not_wrong texts kit right (fault, other, inr (inr (inr why))) = no_board texts kit right fault other why.2
+
+-- nor for a directory that says the bank of their roster, or none if that names none
+pub not_wrong_for : (bank : Option ℕ) (texts : KitTexts) (kit : Kit) → SpellsKit texts kit → SaysBank texts.roster bank → IsWrongFor bank texts → ⊥
+not_wrong_for None texts kit right says (inl wrong) = right_is_not_wrong texts kit right wrong
+not_wrong_for None texts kit right says (inr named) = says named
+not_wrong_for (Some bank) texts kit right says wrong = right_is_not_wrong texts kit right wrong

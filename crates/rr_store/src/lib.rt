@@ -13,7 +13,7 @@
 //!   of the records.
 //! - Commits, ticks and checkpoints that succeed keep the rule that a root has exactly the required snapshots, also for
 //!   the next root, and a crash within one leaves such a root (`KeepsNames`). `format` leaves the whole new file, or no
-//!   store.
+//!   store; `format_as` too, of version 1 or 2.
 #![tactic(auto)]
 
 mod fault;
@@ -28,7 +28,7 @@ mod store;
 mod texts;
 
 pub use fault::Fault;
-pub use formatting::format;
+pub use formatting::{format, format_as};
 pub use opening::{Refused, open};
 pub use rr_checkpoint::Tick;
 pub use rr_game::history::Table;

@@ -2,7 +2,7 @@
 //! little.
 use crate::calls::{Call, check_calls};
 use rr_disk::{Disk, FaultyDisk, MemoryDisk};
-use rr_store::{Fault, Refused, Store, Texts, format, open};
+use rr_store::{Fault, Refused, Store, Texts, format, format_as, open};
 use std::alloc::Global;
 use std::process::Abort;
 
@@ -39,13 +39,33 @@ fn texts() -> Texts<'static> {
     }
 }
 
+pub(crate) fn empty_disk(rt: &(impl Abort + AllocGlobal)) -> MemoryDisk {
+    MemoryDisk::new(rt.alloc(), ROOM).expect(rt, "memory")
+}
+
+// Makes a store of this version, with this roster, and tells why not.
+pub(crate) fn refused_as(
+    alloc: Global,
+    disk: &mut MemoryDisk,
+    roster: &[u8],
+    version: u16,
+) -> Option<Fault> {
+    let texts = Texts {
+        chart: CHART,
+        roster,
+        tiles: b"",
+        board: BOARD,
+    };
+    format_as(alloc, disk, texts, version).err()
+}
+
 fn format_new(alloc: Global, disk: &mut MemoryDisk) -> Result<(), Fault> {
     format(alloc, disk, texts())
 }
 
 // A new file: four texts on pages 514 to 517, and an empty directory on page 518.
 pub(crate) fn new_file(rt: &(impl Abort + AllocGlobal)) -> MemoryDisk {
-    let mut disk = MemoryDisk::new(rt.alloc(), ROOM).expect(rt, "memory");
+    let mut disk = empty_disk(rt);
     format_new(rt.alloc(), &mut disk).expect(rt, "room");
     disk
 }

@@ -18,6 +18,8 @@ mod faults;
 #[cfg(test)]
 mod files;
 #[cfg(test)]
+mod formatting;
+#[cfg(test)]
 mod laws;
 #[cfg(test)]
 mod snapshots;

@@ -178,15 +178,15 @@ fn pages_of_snapshots_below_the_floor_are_free(rt: HostRuntime) {
 }
 
 // Of the file of 130 commands, and of the one of two tables, page 522 has the directory: how many of its bytes are
-// used, and from byte 10 on what stands before the tables, in 50 bytes, 31 for each table, the number of snapshots in
+// used, and from byte 10 on what stands before the tables, in 58 bytes, 31 for each table, the number of snapshots in
 // two, and 18 for each of these.
 const USED: u64 = 2_138_121;
 
-const NUMBER: u64 = 2_138_204;
+const NUMBER: u64 = 2_138_212;
 
-const FIRST: u64 = 2_138_205;
+const FIRST: u64 = 2_138_213;
 
-const SECOND: usize = 2_138_223;
+const SECOND: usize = 2_138_231;
 
 // What is done to a file before its opening is tried.
 #[derive(Clone, Copy)]
@@ -210,7 +210,7 @@ fn with_second_snapshot_alone(rt: &(impl Abort + AllocGlobal), file: MemoryDisk)
     with_bytes(
         rt,
         &file,
-        &[(USED, b"\x65"), (NUMBER, b"\x01"), (FIRST, second)],
+        &[(USED, b"\x6d"), (NUMBER, b"\x01"), (FIRST, second)],
     )
 }
 
@@ -278,16 +278,16 @@ fn few_commands_are_played_by_an_opening(rt: HostRuntime) {
 // and behind none from the second and then 127, since the first is lacking then. Of two tables 6 and 1, or 69 and 1,
 // and then 3 for the record.
 static LACKING: [Opening; 5] = [
-    (UP_TO_130, Change::Writes(&[(USED, b"\x51")]), 129, WHOLE),
+    (UP_TO_130, Change::Writes(&[(USED, b"\x59")]), 129, WHOLE),
     (
         UP_TO_130,
-        Change::Writes(&[(USED, b"\x65"), (NUMBER, b"\x01")]),
+        Change::Writes(&[(USED, b"\x6d"), (NUMBER, b"\x01")]),
         66,
         WHOLE,
     ),
     (UP_TO_130, Change::SecondSnapshotAlone, 129, WHOLE),
     (TWO_TABLES, Change::Nothing, 10, BACK),
-    (TWO_TABLES, Change::Writes(&[(USED, b"\x70")]), 73, BACK),
+    (TWO_TABLES, Change::Writes(&[(USED, b"\x78")]), 73, BACK),
 ];
 
 #[test]

@@ -1,15 +1,18 @@
 //! Each file is opened, and asked what `moderate check` printed when it was written, and for the stamps of its tables,
-//! which are how many lines each was sent; then it makes a tick, and takes one command more. Calls stand without their
-//! contracts, so that what a test does costs its proof little.
+//! which are how many lines each was sent; then it makes a tick, and takes one command more. After a whole checkpoint it
+//! is a file of version 2 that says the same. Calls stand without their contracts, so that what a test does costs its
+//! proof little.
 use rr_code::read_record;
 use rr_disk::MemoryDisk;
 use rr_store::{Fault, Refused, Store, Tick, open};
-use rr_vectors::{KeptFile, NEW_FILE, TWO_CHECKPOINTS, WITHIN_A_CHECKPOINT};
+use rr_vectors::{
+    EIGHT_SLOTS, KeptFile, NAMED_BANK, NEW_FILE, TWO_CHECKPOINTS, WITHIN_A_CHECKPOINT,
+};
 use rr_words::Name;
 use std::alloc::Global;
 use std::test::Fail;
 
-// Room for a file of 528 pages and for what is written behind an opening.
+// Room for a file of 535 pages and for what is written after an opening.
 const ROOM: usize = 1 << 23;
 
 fn content(alloc: Global, file: &KeptFile) -> Result<Vec<u8>, rr_vectors::Fault> {
@@ -43,6 +46,18 @@ fn last_number(store: &Store<MemoryDisk>) -> Result<u64, Fault> {
 
 fn tick(store: &mut Store<MemoryDisk>) -> Result<Tick, Fault> {
     store.tick()
+}
+
+fn checkpoint(store: &mut Store<MemoryDisk>) -> Result<(), Fault> {
+    store.checkpoint()
+}
+
+fn disk_of(store: Store<MemoryDisk>) -> MemoryDisk {
+    store.into_disk()
+}
+
+fn bytes_of(disk: &MemoryDisk) -> &[u8] {
+    disk.content()
 }
 
 fn ticks_left(store: &Store<MemoryDisk>) -> usize {
@@ -124,6 +139,56 @@ fn told(
     Ok((same, other, end, left, commit(&mut store, stamp, record)))
 }
 
+// The number and the version of the root that begins here.
+fn root_at(file: &[u8], at: usize) -> Option<(u64, u16)> {
+    let root = file.get(at..at.checked_add(36)?)?;
+    let number = u64::from_be_bytes(root.get(1..9)?.try_into().ok()?);
+    let version = u16::from_be_bytes(root.get(34..36)?.try_into().ok()?);
+    Some((number, version))
+}
+
+// The version of the root of greater number.
+fn version_of(file: &[u8]) -> Option<u16> {
+    let (first, second) = (root_at(file, 0)?, root_at(file, 4096)?);
+    Some(if first.0 < second.0 {
+        second.1
+    } else {
+        first.1
+    })
+}
+
+// The version of a kept file; what `moderate check` prints after a whole checkpoint, and the version then.
+fn over_a_checkpoint(
+    alloc: Global,
+    file: &KeptFile,
+) -> Result<(Option<u16>, String, Option<u16>), Fail> {
+    let disk = disk_with(alloc, file)?;
+    let before = version_of(bytes_of(&disk));
+    let mut store = opened(alloc, disk)?;
+    checkpoint(&mut store)?;
+    let store = opened(alloc, disk_of(store))?;
+    let line = answer(alloc, &store)?;
+    let disk = disk_of(store);
+    Ok((before, line, version_of(bytes_of(&disk))))
+}
+
+#[test]
+fn a_checkpoint_writes_version_2(rt: HostRuntime) -> Result<(), Fail> {
+    let files = [
+        (&NEW_FILE, 1),
+        (&WITHIN_A_CHECKPOINT, 1),
+        (&TWO_CHECKPOINTS, 1),
+        (&NAMED_BANK, 2),
+        (&EIGHT_SLOTS, 2),
+    ];
+    for (file, version) in files {
+        let (before, line, after) = over_a_checkpoint(rt.alloc(), file)?;
+        assert!(&rt; line.as_str() == file.answer);
+        assert!(&rt; (before, after) == (Some(version), Some(2)));
+    }
+    Ok(())
+}
+
 #[test]
 fn a_new_file_is_opened(rt: HostRuntime) -> Result<(), Fail> {
     let told = told(rt.alloc(), &NEW_FILE, &[], 0, b"ops open a b")?;
@@ -154,5 +219,28 @@ const BEHIND: [Row; 3] = [(b"ops", 120), (b"pair", 81), (b"turns", 66)];
 fn a_file_behind_two_checkpoints_is_opened(rt: HostRuntime) -> Result<(), Fail> {
     let told = told(rt.alloc(), &TWO_CHECKPOINTS, &BEHIND, 120, b"ops done a")?;
     assert!(rt; told == (true, None, Ok(Tick::Idle), 0, Ok(121)));
+    Ok(())
+}
+
+#[test]
+fn a_new_file_with_a_named_bank_is_opened(rt: HostRuntime) -> Result<(), Fail> {
+    let told = told(rt.alloc(), &NAMED_BANK, &[], 0, b"ops open a b")?;
+    assert!(rt; told == (true, None, Ok(Tick::Idle), 0, Ok(1)));
+    Ok(())
+}
+
+const OF_EIGHT_SLOTS: [Row; 4] = [(b"ops", 105), (b"pair", 81), (b"long", 24), (b"turns", 43)];
+
+// The checkpoint is begun anew, with as many ticks as in the file of version 1: both snapshots stay where they stand.
+#[test]
+fn a_file_with_records_of_eight_slots_is_opened(rt: HostRuntime) -> Result<(), Fail> {
+    let told = told(
+        rt.alloc(),
+        &EIGHT_SLOTS,
+        &OF_EIGHT_SLOTS,
+        24,
+        b"long back 15",
+    )?;
+    assert!(rt; told == (true, None, Ok(Tick::More), 7, Ok(25)));
     Ok(())
 }

@@ -19,7 +19,6 @@ use Rattle.rr_kit.specs.Kits.{KitTexts}
 use Rattle.rr_kit.proofs.OneKit.{one_kit}
 use Rattle.rr_laws.specs.Sizes.{GamesAreShort}
 use Rattle.rr_log.proofs.FormattingLemmas.Moments.{new_keeps}
-use Rattle.rr_pages.specs.declared.root.TheConstants.{NEWEST_VERSION}
 use Rattle.rr_reading.specs.declared.dir.directory.TheConstants.{MOST_SNAPSHOT_BYTES}
 use Rattle.rr_tables.specs.Records.Headline.{KeepsTables, KeepsTablesOr}
 use Rattle.rr_tables.specs.Records.Taking.{table_files}
@@ -27,6 +26,7 @@ use Rattle.rr_tables.specs.Records.Words.{in_words}
 use Rattle.rr_tables.specs.Records.World.{TableRequest, World, for_table, world_after}
 use Rattle.rr_tables.proofs.RecordLemmas.PlayedLemmas.{played_after}
 use Rattle.rr_tables.proofs.RecordLemmas.WorldLemmas.{keep_after}
+use Rattle.rr_reading.specs.Dir.Version.{version_number}
 use Rattle.rr_store.specs.declared.fault.Fault.{Fault}
 use Rattle.rr_store.specs.declared.opening.Refused as opening
 use Rattle.rr_store.specs.declared.store.Store.{Store}
@@ -273,7 +273,7 @@ module _ (programs : Programs) where
   Has texts = History programs texts
 
   pub histories_begin : HistoriesBegin programs
-  histories_begin texts old new formats image is = New image formats.0.0 formats.0.1 (formats.1 image is)
+  histories_begin version texts old new formats image is = New image formats.0.0 formats.0.1 (version, formats.1 image is)
 
   pub histories_go_on : ContentsMayStay programs → HistoriesGoOn programs
   histories_go_on may_stay texts p disk last history ran honest =
@@ -315,7 +315,7 @@ module _ (programs : Programs) where
           right = right;
           tables = [];
           tables_of_kit = record { spelled = tt; played = tt };
-          keeps = new_keeps table_files NEWEST_VERSION (in_words texts []) one new;
+          keeps = new_keeps table_files (version_number new.0) (in_words texts []) one new.1;
           names = new_files one texts kit new;
         }
     histories_name texts file (Behind p disk last image history ran honest of) =

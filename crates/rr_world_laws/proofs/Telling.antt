@@ -5,7 +5,7 @@ use Rattle.rr_images.specs.Layout.{Stands}
 use Rattle.rr_images.specs.Refusing.{Unlawful_record}
 use Rattle.rr_images.proofs.Refusing.{stands_is_not_refused}
 use Rattle.rr_kit.specs.declared.kit.Kit.{Kit}
-use Rattle.rr_kit.specs.Kits.{IsWrongKit, KitTexts, SpellsKit}
+use Rattle.rr_kit.specs.Kits.{KitTexts, SpellsKit}
 use Rattle.rr_log.specs.Opening.Opened.{HasDamagedRecord}
 use Rattle.rr_log.proofs.OpeningLemmas.Refusals.{damaged_record_refused, stands_no_verdict}
 use Rattle.rr_pages.proofs.ChoosingLemmas.{taken_store}
@@ -28,8 +28,9 @@ use Rattle.rr_store.specs.Recovery.Replaying.{BreaksOff}
 use Rattle.rr_store.specs.Recovery.Texts.{texts_in}
 use Rattle.rr_store.specs.declared.fault.Fault.TheVariants as S
 use Rattle.rr_store.specs.Files.{AreTablesOf}
-use Rattle.rr_store.proofs.Kits.{right_is_not_wrong}
+use Rattle.rr_store.proofs.Kits.{not_wrong_for, right_is_not_wrong}
 use Rattle.rr_store.proofs.Recovering.{broken_off, spelled_texts}
+use Rattle.rr_store.proofs.RecoveryLemmas.BaseLemmas.{bank_spelled}
 use Rattle.rr_store.proofs.Trusting.{is_written, one_written, standing_spells, true_snapshots}
 use Rattle.rr_reading.specs.Worlds.World as words
 use Rattle.rr_reading.proofs.WorldLemmas.Exact.{forms_spelled}
@@ -102,7 +103,9 @@ module _ (file : List ℕ) (texts : KitTexts) (kit : Kit) (tables : World) (righ
 
   keeps_rules : (damage : Damage) → IsDamage has damage → ⊥
   keeps_rules D.Form bad = bad stands.base (is_written has was_played.tables stands.base spells_base was_played.spelled)
-  keeps_rules D.Kit bad = right_kits_are_not_wrong texts kit right (subst (λ (t : KitTexts). IsWrongKit t) same_texts bad.wrong)
+  keeps_rules D.Kit bad =
+      not_wrong_for has.directory.bank (texts_in has.texts) kit (subst (λ (t : KitTexts). SpellsKit t kit) (sym same_texts) right)
+      (bank_spelled file has holds table_rules stands.base spells_base) bad.wrong
   keeps_rules D.Kept may =
       let bad = may truth in
       let same = one_written has stands.base bad.world spells_base bad.written in

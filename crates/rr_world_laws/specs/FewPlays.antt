@@ -12,7 +12,8 @@ use Rattle.rr_tables.specs.Records.World.{World}
 use Rattle.rr_turns.specs.declared.request.Request.{Request}
 use Rattle.rr_store.specs.declared.fault.Fault.{Fault}
 use Rattle.rr_store.specs.declared.store.Store.{Store}
-use Rattle.rr_store.specs.Allowing.{FormatAllows}
+use Rattle.rr_reading.specs.declared.dir.version.Version.{Version}
+use Rattle.rr_store.specs.Allowing.{FormatAllowsAs}
 use Rattle.rr_store.specs.Committing.{Commits}
 use Rattle.rr_store.specs.declared.opening.Refused as opening
 use Rattle.rr_store.specs.Events.{Opens, Passes, disk_behind}
@@ -95,9 +96,10 @@ module _ (programs : Programs) where
         → History texts (content_of p disk) → Ran p disk last → Calls p last new moments
         → IsImageOfOne moments image → History texts image
 
-  -- whatever a crash leaves after a formatting is such a file
+  -- whatever a crash leaves after a formatting, of either version, is such a file
   abbrev pub HistoriesBegin : Type 0
-  HistoriesBegin = (texts : KitTexts) (old new : DiskState) → FormatAllows texts old new (Ok tt) → EachImage new (History texts)
+  HistoriesBegin =
+      (version : Version) (texts : KitTexts) (old new : DiskState) → FormatAllowsAs version texts old new (Ok tt) → EachImage new (History texts)
 
   -- and so is what the disk of such a program gives, if that just ends
   abbrev pub HistoriesGoOn : Type 0

@@ -10,13 +10,16 @@ pub struct TextPages {
     pub pages: Vec<u32>,
 }
 
-/// Where the present root holds the four texts of a kit. A checkpoint keeps them there.
+/// Where the present root holds the four texts of a kit, and what the bank begins with by its roster. A checkpoint
+/// keeps the texts there, and its directory says the bank.
 #[derive(Drop)]
 pub struct KitPages {
     pub chart: TextPages,
     pub roster: TextPages,
     pub tiles: TextPages,
     pub board: TextPages,
+    /// In dollars.
+    pub bank: u64,
 }
 
 impl KitPages {

@@ -1,8 +1,8 @@
 -- What the chains of a new file spell.
-use Rattle.std.proofs.Common.{◌≡◌, ℕ, zero, suc, ◌+◌, ◌^◌, ◌<◌, ◌≤◌, Bool, false, List, [], ◌∷◌, ◌++◌, length, map, refl, sym, ◌∙◌, ap, subst, arith, length-append}
+use Rattle.std.proofs.Common.{◌≡◌, inl, inr, Option, None, Some, ℕ, zero, suc, ◌+◌, ◌^◌, ◌<◌, ◌≤◌, Bool, false, List, [], ◌∷◌, ◌++◌, length, map, refl, sym, ◌∙◌, ap, subst, arith, length-append}
 use Rattle.std.proofs.lemmas.List.{length-map}
 use Rattle.std.proofs.lemmas.List.Elements.{All-nil}
-use Rattle.rr_reading.specs.Dir.Directory.{IsDirectory, IsSnapshot, IsText, IsTable, spelling, spelled_chain}
+use Rattle.rr_reading.specs.Dir.Directory.{FitsVersion, IsDirectory, IsSnapshot, IsText, IsTable, spelling, spelled_bank, spelled_chain, spelled_rest}
 use Rattle.rr_words.specs.Spelling.Number.{spelled_number}
 use Rattle.rr_words.proofs.SpellingLemmas.NumberLemmas.{length-spelled_number}
 use Rattle.rr_reading.specs.declared.dir.directory.ChainRef.{ChainRef}
@@ -10,7 +10,7 @@ use Rattle.rr_reading.specs.declared.dir.directory.KitChains.{KitChains}
 use Rattle.rr_pages.specs.Roots.{IsKnownVersion}
 use Rattle.rr_reading.specs.Dir.Version.{version_number}
 use Rattle.rr_reading.specs.declared.dir.version.Version.{Version}
-use Rattle.rr_reading.specs.declared.dir.version.Version.TheVariants.{One}
+use Rattle.rr_reading.specs.declared.dir.version.Version.TheVariants.{One, Two}
 use Rattle.rr_reading.specs.Dir.Heads.{Heads}
 use Rattle.rr_images.specs.Holding.{heads_of, texts_of}
 use Rattle.rr_images.specs.Layout.{Layout, formatted}
@@ -115,7 +115,7 @@ no_chains = record { tables = []; snapshots = [] }
 abbrev before : (rules : WorldRules) → World → Layout (worlds rules)
 before rules world =
     formatted false (record { number = 0; directory = 0; half = Second; first = 1; pages = 0; version = 1 })
-    (record { directory = record { pages = []; text = [] }; chains = [] }) world
+    (record { version = 1; directory = record { pages = []; text = [] }; chains = [] }) world
 
 abbrev pub first_root : Version → ℕ → ℕ → Root
 first_root version directory count = record { number = 1; directory = directory; half = First; first = 1; pages = 514 + count; version = version_number version }
@@ -123,13 +123,15 @@ first_root version directory count = record { number = 1; directory = directory;
 -- files of each version are read
 version_known : (version : Version) → IsKnownVersion (version_number version)
 unfolding IsKnownVersion
-version_known One = refl
+version_known One = inl refl
+version_known Two = inr refl
 
 module _ (rules : WorldRules) (version : Version) (present coming between after : List Bool) (fresh more : List FreshPage)
     (chart roster tiles board bytes : List ℕ) (kit : KitChains) (head : ℕ)
     (is_kit : IsKitLaid present coming between fresh (empty_world chart roster tiles board) kit)
     (is : IsLaid present between after bytes fresh more head)
-    (spelled : bytes ≡ spelling version (record { kit = kit; tables = []; snapshots = [] })) (turn : AreInTurn present coming 0)
+    (bank : Option ℕ) (said : FitsVersion version bank) (banked : rules.banks roster bank)
+    (spelled : bytes ≡ spelling version (record { bank = bank; kit = kit; tables = []; snapshots = [] })) (turn : AreInTurn present coming 0)
     (chart_short : length chart ≤ 65536) (roster_short : length roster ≤ 65536) (tiles_short : length tiles ≤ 65536)
     (board_short : length board ≤ 65536) (few : length more ≤ 1000) where
   abbrev world : World
@@ -144,13 +146,13 @@ module _ (rules : WorldRules) (version : Version) (present coming between after 
   last : OneLaid present coming after more kit_chains bytes head
   last = one_more_laid present coming between after fresh more kit_chains bytes head is_kit.laid is
 
-  same_kit : kit ≡ (directory_for texts no_chains world []).kit
+  same_kit : kit ≡ (directory_for bank texts no_chains world []).kit
   same_kit = λ i. record { chart = is_kit.to_chart.named i; roster = is_kit.to_roster.named i; tiles = is_kit.to_tiles.named i; board = is_kit.to_board.named i }
 
-  same_bytes : joined last.chain.pieces ≡ bytes_for version texts no_chains world []
-  same_bytes = last.whole ∙ (spelled ∙ ap (λ (k : KitChains). spelling version (record { kit = k; tables = []; snapshots = [] })) same_kit)
+  same_bytes : joined last.chain.pieces ≡ bytes_for version bank texts no_chains world []
+  same_bytes = last.whole ∙ (spelled ∙ ap (λ (k : KitChains). spelling version (record { bank = bank; kit = k; tables = []; snapshots = [] })) same_kit)
 
-  is_directory : IsDirectory (directory_for texts no_chains world [])
+  is_directory : IsDirectory (directory_for bank texts no_chains world [])
   is_directory =
       let fit = is_kit.laid.fit in
       record {
@@ -184,7 +186,7 @@ module _ (rules : WorldRules) (version : Version) (present coming between after 
   is_made : IsMade (worlds rules) (before rules world) (first_root version head (length more)) last.chain
       (Fresh is_kit.chart ∷ Fresh is_kit.roster ∷ Fresh is_kit.tiles ∷ Fresh is_kit.board ∷ [])
   is_made =
-      let read = read_back rules version texts no_chains world [] holds_texts tt (All-nil (λ (snapshot : Snapshot). IsShown rules world snapshot.table snapshot.kept snapshot.bytes)) is_directory in
+      let read = read_back rules version bank texts no_chains world [] holds_texts tt (All-nil (λ (snapshot : Snapshot). IsShown rules world snapshot.table snapshot.kept snapshot.bytes)) said banked is_directory in
       let up : pages_up_to (laid_pages chains) ≡ 514 + length more = ap (λ (pages : List ℕ). pages_up_to pages) laid_turn ∙ counted_up 514 (length more) some_pages in
       record {
         next = record { number = omega arith; half = refl; first = refl };
@@ -217,23 +219,40 @@ module _ (rules : WorldRules) (version : Version) (present coming between after 
         spells = λ file stand. plan.spells file tt (subst (λ (xs : List (ℕ × List ℕ)). AllStand file xs) last.laid.to_write stand);
       }
 
--- a directory without tables has 50 bytes
+-- a directory without tables has 50 bytes, and eight of its bank
 chain_bytes : (chain : ChainRef) → length (spelled_chain chain) ≡ 12
 chain_bytes chain = omega (arith, length-append (spelled_number 8 chain.head) (spelled_number 4 chain.length), length-spelled_number 8 chain.head, length-spelled_number 4 chain.length)
 
-directory_bytes : (version : Version) (kit : KitChains) (bytes : List ℕ) → bytes ≡ spelling version (record { kit = kit; tables = []; snapshots = [] }) → length bytes ≡ 50
-directory_bytes One kit bytes is =
+rest_bytes : (bank : Option ℕ) (kit : KitChains) → length (spelled_rest (record { bank = bank; kit = kit; tables = []; snapshots = [] })) ≡ 50
+rest_bytes bank kit =
     let a = spelled_chain kit.chart in
     let b = spelled_chain kit.roster in
     let c = spelled_chain kit.tiles in
     let d = spelled_chain kit.board in
     let n = spelled_number 2 0 ++ [] in
     let t = n ++ [] in
-    omega (arith, ap (λ (xs : List ℕ). length xs) is, length-append (a ++ (b ++ (c ++ d))) t, length-append a (b ++ (c ++ d)), length-append b (c ++ d), length-append c d, chain_bytes kit.chart, chain_bytes kit.roster, chain_bytes kit.tiles, chain_bytes kit.board, length-append n [], length-append (spelled_number 2 0) [], length-spelled_number 2 0)
+    omega (arith, length-append (a ++ (b ++ (c ++ d))) t, length-append a (b ++ (c ++ d)), length-append b (c ++ d), length-append c d, chain_bytes kit.chart, chain_bytes kit.roster, chain_bytes kit.tiles, chain_bytes kit.board, length-append n [], length-append (spelled_number 2 0) [], length-spelled_number 2 0)
 
-pub directory_few : (version : Version) (kit : KitChains) (bytes : List ℕ) → bytes ≡ spelling version (record { kit = kit; tables = []; snapshots = [] }) → length bytes ≤ 65536
-directory_few version kit bytes is = omega (arith, directory_bytes version kit bytes is)
+bank_bytes : (bank : Option ℕ) → length (spelled_bank bank) ≤ 8
+bank_bytes None = omega arith
+bank_bytes (Some bank) = omega (arith, length-spelled_number 8 bank)
+
+directory_bytes : (version : Version) (bank : Option ℕ) (kit : KitChains) (bytes : List ℕ) → bytes ≡ spelling version (record { bank = bank; kit = kit; tables = []; snapshots = [] })
+    → (50 ≤ length bytes) × (length bytes ≤ 58)
+directory_bytes One bank kit bytes is =
+    let all = ap (λ (xs : List ℕ). length xs) is in
+    (omega (arith, all, rest_bytes bank kit), omega (arith, all, rest_bytes bank kit))
+directory_bytes Two bank kit bytes is =
+    let all = ap (λ (xs : List ℕ). length xs) is in
+    let both = length-append (spelled_bank bank) (spelled_rest (record { bank = bank; kit = kit; tables = []; snapshots = [] })) in
+    (omega (arith, all, both, rest_bytes bank kit), omega (arith, all, both, rest_bytes bank kit, bank_bytes bank))
+
+pub directory_few : (version : Version) (bank : Option ℕ) (kit : KitChains) (bytes : List ℕ) → bytes ≡ spelling version (record { bank = bank; kit = kit; tables = []; snapshots = [] }) → length bytes ≤ 65536
+directory_few version bank kit bytes is = omega (arith, (directory_bytes version bank kit bytes is).1)
 
 -- and so one page
-pub directory_page : (version : Version) (kit : KitChains) (bytes : List ℕ) → bytes ≡ spelling version (record { kit = kit; tables = []; snapshots = [] }) → pages_for (length bytes) ≡ 1
-directory_page version kit bytes is = ap pages_for (directory_bytes version kit bytes is)
+pub directory_page : (version : Version) (bank : Option ℕ) (kit : KitChains) (bytes : List ℕ) → bytes ≡ spelling version (record { bank = bank; kit = kit; tables = []; snapshots = [] }) → pages_for (length bytes) ≡ 1
+directory_page version bank kit bytes is =
+    let most = (directory_bytes version bank kit bytes is).1 in
+    let least = (directory_bytes version bank kit bytes is).0 in
+    omega (arith, most, least)

@@ -1,5 +1,5 @@
 ghost use Rattle.std.specs.Prelude.{◌≡◌, ◌+◌, ◌≤◌, false, [], length, IfOk, IfErr};
-ghost use Rattle.rr_reading.specs.Dir.Directory.{spelling};
+ghost use Rattle.rr_reading.specs.Dir.Directory.{FitsVersion, spelling};
 ghost use Rattle.rr_reading.specs.Dir.Version.{version_number};
 ghost use Rattle.rr_log.specs.Formatting.Calls.{data_pages};
 ghost use Rattle.rr_log.specs.Formatting.NewFile.{IsNewFile, empty_world};
@@ -21,20 +21,23 @@ pub struct NewFile {
     pub fresh: Vec<FreshPage>,
 }
 
-/// Lays the four texts of a kit, each of 65,536 bytes at most, and a directory that names them and no table, in the
-/// form of this version. The file has no record, and the first one will have number 1, in the first half. Which lines
-/// records may have, `R` says.
+/// Lays the four texts of a kit, each of 65,536 bytes at most, and a directory of this version that names them and no
+/// table. In version 2 it says the roster's bank. The file has no record, and the first one will have number 1, in the
+/// first half. Which lines records may have, `R` says.
 ///
 /// # Errors
 /// `OutOfMemory` alone.
 pub fn new_file<R: Rules>(
     alloc: Global,
     version: Version,
+    bank: Option<u64>,
     chart: &[u8],
     roster: &[u8],
     tiles: &[u8],
     board: &[u8],
 ) -> Result<NewFile, Fault>
+    requires said { FitsVersion version bank }
+    requires banked { R.rules.banks roster.now bank }
     requires short_chart { length chart.now ≤ MOST_TEXT }
     requires short_roster { length roster.now ≤ MOST_TEXT }
     requires short_tiles { length tiles.now ≤ MOST_TEXT }
@@ -49,7 +52,7 @@ pub fn new_file<R: Rules>(
     let mut free = FreePages::new(alloc, ReachedPages::new(alloc)?)?;
     let mut fresh = Vec::new(alloc);
     let kit = lay_kit(alloc, &mut free, &mut fresh, chart, roster, tiles, board)?;
-    let directory = directory_bytes(alloc, version, kit)?;
+    let directory = directory_bytes(alloc, version, bank, kit)?;
     let chain = lay_text(alloc, &mut free, &mut fresh, &directory)?;
     Ok(NewFile {
         root: first_root(version, chain.head, fresh.len() as u64),
@@ -58,11 +61,17 @@ pub fn new_file<R: Rules>(
 }
 
 // The bytes of a directory of this version without tables, and so without snapshots.
-fn directory_bytes(alloc: Global, version: Version, kit: KitChains) -> Result<Vec<u8>, Fault>
-    ensures bytes { IfOk result (λ bytes. bytes.items ≡ spelling version (record { kit = kit; tables = []; snapshots = [] })) }
+fn directory_bytes(
+    alloc: Global,
+    version: Version,
+    bank: Option<u64>,
+    kit: KitChains,
+) -> Result<Vec<u8>, Fault>
+    ensures bytes { IfOk result (λ bytes. bytes.items ≡ spelling version (record { bank = bank; kit = kit; tables = []; snapshots = [] })) }
     ensures memory { IfErr result (λ fault. fault ≡ Fault.OutOfMemory) }
 {
     let dir = Dir {
+        bank,
         kit,
         tables: Vec::new(alloc),
         snapshots: Vec::new(alloc),

@@ -1,5 +1,5 @@
 -- The bytes of kits, tables and directories tell what they spell.
-use Rattle.std.proofs.Common.{◌≡◌, ◌≢◌, ℕ, ◌+◌, ◌<◌, ◌≤◌, List, [], ◌∷◌, ◌++◌, length, get_or, refl, sym, ap, ◌∙◌, subst, arith, length-append, append_assoc}
+use Rattle.std.proofs.Common.{◌≡◌, ◌≢◌, Option, None, Some, ℕ, ◌+◌, ◌^◌, ◌<◌, ◌≤◌, List, [], ◌∷◌, ◌++◌, length, get_or, refl, sym, ap, ◌∙◌, subst, arith, length-append, append_assoc}
 use Rattle.std.specs.List.{flat_map, All, Any}
 use Rattle.std.proofs.lemmas.List.{flat_map_more, get_or_append_left, get_or_at, get_or_default}
 use Rattle.std.proofs.lemmas.List.Elements.{All-nil, All-push}
@@ -7,9 +7,9 @@ use Rattle.std.proofs.lemmas.List.Quantifiers.{all_pairs_push}
 use Rattle.rr_reading.specs.declared.dir.directory.KitChains.{KitChains}
 use Rattle.rr_reading.specs.declared.dir.directory.TableEntry.{TableEntry}
 use Rattle.rr_reading.specs.declared.dir.version.Version.{Version}
-use Rattle.rr_reading.specs.declared.dir.version.Version.TheVariants.{One}
+use Rattle.rr_reading.specs.declared.dir.version.Version.TheVariants.{One, Two}
 use Rattle.rr_words.specs.Spelling.Number.{spelled_number}
-use Rattle.rr_reading.specs.Dir.Directory.{Directory, Spells, spelled_chain, spelled_kit, spelled_name, spelled_snapshots, spelled_state, spelled_table, spelled_tables, HasChains, FitsBytes, HaveOwnNames, IsKit, IsTable, AreTables, AreSnapshots, BeginsTables}
+use Rattle.rr_reading.specs.Dir.Directory.{Directory, FitsVersion, IsDirectory, Spells, spelled_bank, spelled_rest, spelled_chain, spelled_kit, spelled_name, spelled_snapshots, spelled_state, spelled_table, spelled_tables, HasChains, FitsBytes, HaveOwnNames, IsKit, IsTable, AreTables, AreSnapshots, BeginsTables}
 use Rattle.rr_reading.specs.Dir.Heads.{Heads, heads_of}
 use Rattle.rr_words.proofs.SpellingLemmas.NumberLemmas.{length-spelled_number}
 use Rattle.rr_reading.proofs.DirLemmas.ChainRefLemmas.{IsChain-text, cut_chain, length-spelled_chain}
@@ -109,15 +109,47 @@ cut_tables ts us r s are_ts are_us same =
     let count = cut_number 2 (length ts) (length us) (flat_map spelled_table ts ++ r) (flat_map spelled_table us ++ s) (omega (arith, are_ts.few)) (omega (arith, are_us.few)) there in
     cut_list spelled_table IsTable cut_table ts us r s are_ts.each are_us.each count.0 count.1
 
-pub one_directory : (version : Version) (bytes : List ℕ) (d e : Directory) → Spells version bytes d → Spells version bytes e → d ≡ e
-one_directory One bytes d e first second =
-    let is_d = first.is_directory in
-    let is_e = second.is_directory in
-    let kit = cut_kit d.kit e.kit (spelled_tables d.tables ++ spelled_snapshots d.snapshots) (spelled_tables e.tables ++ spelled_snapshots e.snapshots) (HasChains-kit d.kit is_d.is_kit) (HasChains-kit e.kit is_e.is_kit) (sym first.spelled ∙ second.spelled) in
+-- after one bank there is one directory
+one_rest : (d e : Directory) → IsDirectory d → IsDirectory e → d.bank ≡ e.bank → spelled_rest d ≡ spelled_rest e → d ≡ e
+one_rest d e is_d is_e bank same =
+    let kit = cut_kit d.kit e.kit (spelled_tables d.tables ++ spelled_snapshots d.snapshots) (spelled_tables e.tables ++ spelled_snapshots e.snapshots) (HasChains-kit d.kit is_d.is_kit) (HasChains-kit e.kit is_e.is_kit) same in
     let tables = cut_tables d.tables e.tables (spelled_snapshots d.snapshots) (spelled_snapshots e.snapshots) is_d.are_tables is_e.are_tables kit.1 in
     let are : AreSnapshots d.tables e.snapshots = subst (λ (ts : List TableEntry). AreSnapshots ts e.snapshots) (sym tables.0) is_e.are_snapshots in
     let snapshots = one_snapshots d.tables is_d.are_tables d.snapshots e.snapshots is_d.are_snapshots are tables.1 in
-    λ i. record { kit = kit.0 i; tables = tables.0 i; snapshots = snapshots i }
+    λ i. record { bank = bank i; kit = kit.0 i; tables = tables.0 i; snapshots = snapshots i }
+
+none_said : (bank other : Option ℕ) → FitsVersion One bank → FitsVersion One other → bank ≡ other
+none_said None None is also = refl
+none_said None (Some other) is also = absurd also
+none_said (Some bank) other is also = absurd is
+
+-- banks before other bytes are equal if all these bytes are
+pub cut_bank : (bank other : Option ℕ) (r s : List ℕ) → FitsVersion Two bank → FitsVersion Two other → spelled_bank bank ++ r ≡ spelled_bank other ++ s → (bank ≡ other) × (r ≡ s)
+cut_bank None other r s is also same = absurd is
+cut_bank (Some bank) None r s is also same = absurd also
+cut_bank (Some bank) (Some other) r s is also same =
+    let cut = cut_number 8 bank other r s (omega (arith, is)) (omega (arith, also)) same in
+    (ap (λ (n : ℕ). Some n) cut.0, cut.1)
+
+-- the bytes of a directory of the second version begin with its bank
+bank_said : (bytes : List ℕ) (d : Directory) (bank : Option ℕ) → FitsVersion Two bank → bytes ≡ spelled_bank bank ++ spelled_rest d → (n : ℕ) × (n < 256 ^ 8) × (bytes ≡ spelled_number 8 n ++ spelled_rest d)
+bank_said bytes d None has is = absurd has
+bank_said bytes d (Some bank) has is = (bank, omega (arith, has), is)
+
+pub bank_in_front : (bytes : List ℕ) (d : Directory) → Spells Two bytes d → (n : ℕ) × (n < 256 ^ 8) × (bytes ≡ spelled_number 8 n ++ spelled_rest d)
+bank_in_front bytes d spells = bank_said bytes d d.bank spells.banked spells.spelled
+
+pub long_enough : (bytes : List ℕ) (d : Directory) → Spells Two bytes d → 8 ≤ length bytes
+long_enough bytes d spells =
+    let front = bank_in_front bytes d spells in
+    omega (arith, ap (λ (xs : List ℕ). length xs) front.2, length-append (spelled_number 8 front.0) (spelled_rest d), length-spelled_number 8 front.0)
+
+pub one_directory : (version : Version) (bytes : List ℕ) (d e : Directory) → Spells version bytes d → Spells version bytes e → d ≡ e
+one_directory One bytes d e first second =
+    one_rest d e first.is_directory second.is_directory (none_said d.bank e.bank first.banked second.banked) (sym first.spelled ∙ second.spelled)
+one_directory Two bytes d e first second =
+    let cut = cut_bank d.bank e.bank (spelled_rest d) (spelled_rest e) first.banked second.banked (sym first.spelled ∙ second.spelled) in
+    one_rest d e first.is_directory second.is_directory cut.0 cut.1
 
 pub one_heads : (number : ℕ) (bytes : List ℕ) (a b : List (ℕ × ℕ)) → Heads number bytes a → Heads number bytes b → a ≡ b
 one_heads number bytes a b first second =

@@ -1,6 +1,6 @@
 -- The chains of a checkpoint.
-use Rattle.std.proofs.Common.{◌≡◌, inl, List, [], ◌∷◌, ◌++◌, map, refl, sym, subst, ap}
-use Rattle.rr_reading.specs.Dir.Directory.{IsDirectory}
+use Rattle.std.proofs.Common.{◌≡◌, ℕ, Option, inl, List, [], ◌∷◌, ◌++◌, map, refl, sym, subst, ap}
+use Rattle.rr_reading.specs.Dir.Directory.{FitsVersion, IsDirectory}
 use Rattle.rr_reading.specs.Dir.Heads.{Heads}
 use Rattle.rr_reading.specs.Dir.Version.{version_number}
 use Rattle.rr_reading.specs.declared.dir.version.Version.{Version}
@@ -32,13 +32,14 @@ none_kept (chain ∷ laid) drafts = none_kept laid drafts
 drafted_all : (texts : TextChains) (laid : List LaidChain) (drafts : List Draft) → drafted (drafts_for texts laid drafts) ≡ chains_of texts (all_of (table_chains laid drafts))
 drafted_all texts laid drafts = ap (λ (chains : List HeldChain). chains_of texts chains) (drafted_first laid drafts)
 
-pub checkpoints_spell : (rules : WorldRules) (version : Version) (texts : TextChains) (laid : List LaidChain) (drafts : List Draft) (world : World) (snapshots : List Snapshot) → HoldTexts texts (table_chains laid drafts) world snapshots → AreShort world.tables
-    → AreShown rules world snapshots → IsDirectory (directory_for texts (table_chains laid drafts) world snapshots) → IsCheckpointOf rules version texts laid drafts world (bytes_for version texts (table_chains laid drafts) world snapshots)
-checkpoints_spell rules version texts laid drafts world snapshots holds short shown is =
+pub checkpoints_spell : (rules : WorldRules) (version : Version) (bank : Option ℕ) (texts : TextChains) (laid : List LaidChain) (drafts : List Draft) (world : World) (snapshots : List Snapshot) → HoldTexts texts (table_chains laid drafts) world snapshots → AreShort world.tables
+    → AreShown rules world snapshots → FitsVersion version bank → rules.banks world.roster bank → IsDirectory (directory_for bank texts (table_chains laid drafts) world snapshots)
+    → IsCheckpointOf rules version texts laid drafts world (bytes_for version bank texts (table_chains laid drafts) world snapshots)
+checkpoints_spell rules version bank texts laid drafts world snapshots holds short shown said banked is =
     let chains = table_chains laid drafts in
-    let read = read_back rules version texts chains world snapshots holds short shown is in
+    let read = read_back rules version bank texts chains world snapshots holds short shown said banked is in
     let all = sym (drafted_all texts laid drafts) in
-    let bytes = bytes_for version texts chains world snapshots in
+    let bytes = bytes_for version bank texts chains world snapshots in
     record {
       named = subst (λ (held : List HeldChain). Heads (version_number version) bytes (heads_of held)) all read.named;
       spells = subst (λ (held : List HeldChain). Spells rules (version_number version) bytes (texts_of held) world) all read.spells;

@@ -1,12 +1,12 @@
 -- What is written of a world is read back, and nothing else is.
-use Rattle.std.proofs.Common.{◌≡◌, ℕ, List, [], ◌∷◌, ◌++◌, length, map, refl, sym, ◌∙◌, subst, ap, arith}
+use Rattle.std.proofs.Common.{◌≡◌, ℕ, Option, List, [], ◌∷◌, ◌++◌, length, map, refl, sym, ◌∙◌, subst, ap, arith}
 use Rattle.std.proofs.lemmas.List.{length-map}
 use Rattle.std.proofs.lemmas.List.Elements.{All-cons, All-head, All-nil, All-tail}
 use Rattle.rr_reading.specs.declared.dir.directory.ChainRef.{ChainRef}
 use Rattle.rr_reading.specs.declared.dir.directory.SnapshotEntry.{SnapshotEntry}
 use Rattle.rr_reading.specs.declared.dir.directory.TableEntry.{TableEntry}
 use Rattle.rr_reading.specs.declared.dir.version.Version.{Version}
-use Rattle.rr_reading.specs.Dir.Directory.{Directory, IsDirectory, spelling}
+use Rattle.rr_reading.specs.Dir.Directory.{Directory, FitsVersion, IsDirectory, spelling}
 use Rattle.rr_reading.specs.Dir.Directory as dir
 use Rattle.rr_reading.specs.Dir.Heads.{Heads, head_of, heads_of_tables}
 use Rattle.rr_reading.specs.Dir.Heads as named
@@ -87,22 +87,23 @@ games_shown rules world (chain ∷ chains) (snapshot ∷ snapshots) same shown =
       games_shown rules world chains snapshots rest others,
     )
 
-pub read_back : (rules : WorldRules) (version : Version) (texts : TextChains) (chains : TableChains) (world : World) (snapshots : List Snapshot) → HoldTexts texts chains world snapshots → AreShort world.tables → AreShown rules world snapshots
-    → IsDirectory (directory_for texts chains world snapshots) → IsReadBack rules version texts chains world snapshots
-read_back rules version texts chains world snapshots holds short shown is =
+pub read_back : (rules : WorldRules) (version : Version) (bank : Option ℕ) (texts : TextChains) (chains : TableChains) (world : World) (snapshots : List Snapshot) → HoldTexts texts chains world snapshots → AreShort world.tables → AreShown rules world snapshots
+    → FitsVersion version bank → rules.banks world.roster bank → IsDirectory (directory_for bank texts chains world snapshots) → IsReadBack rules version bank texts chains world snapshots
+read_back rules version bank texts chains world snapshots holds short shown said banked is =
     record {
       named = record {
         version = version;
         numbered = refl;
-        directory = directory_for texts chains world snapshots;
-        spelled = record { is_directory = is; spelled = refl };
+        directory = directory_for bank texts chains world snapshots;
+        spelled = record { is_directory = is; banked = said; spelled = refl };
         named = ap (λ (heads : List (ℕ × ℕ)). head_of (ref_of texts.chart) ∷ head_of (ref_of texts.roster) ∷ head_of (ref_of texts.tiles) ∷ head_of (ref_of texts.board) ∷ heads) (all_heads texts chains world snapshots holds);
       };
       spells = record {
         version = version;
         numbered = refl;
-        directory = directory_for texts chains world snapshots;
-        spelled = record { is_directory = is; spelled = refl };
+        directory = directory_for bank texts chains world snapshots;
+        spelled = record { is_directory = is; banked = said; spelled = refl };
+        banked = banked;
         of_tables = texts_of chains.tables;
         of_snapshots = texts_of chains.snapshots;
         of_chains = λ i. holds.of_chart i ∷ holds.of_roster i ∷ holds.of_tiles i ∷ holds.of_board i ∷ texts_behind chains.tables chains.snapshots i;
@@ -232,16 +233,19 @@ written rules number bytes texts others world heads spells =
     let first = tables_written tables parts.chains.tables world.tables parts.heads_are (subst (λ (ts : List (List ℕ)). SpellsTables tables ts world.tables) (sym parts.texts_are) spells.tables) in
     let then = snapshots_written rules world spells.directory.snapshots parts.chains.snapshots parts.more_are
     (subst (λ (ts : List (List ℕ)). ShowGames rules world spells.directory.snapshots ts) (sym parts.rest_are) spells.snapshots) in
-    let directory : spells.directory ≡ directory_for texts parts.chains world then.snapshots =
-    λ i. record { kit = record { chart = of_chart i; roster = of_roster i; tiles = of_tiles i; board = of_board i }; tables = first.entries_are i; snapshots = then.entries_are i } in
+    let directory : spells.directory ≡ directory_for spells.directory.bank texts parts.chains world then.snapshots =
+    λ i. record { bank = spells.directory.bank; kit = record { chart = of_chart i; roster = of_roster i; tiles = of_tiles i; board = of_board i }; tables = first.entries_are i; snapshots = then.entries_are i } in
     record {
       version = spells.version;
       numbered = spells.numbered;
+      bank = spells.directory.bank;
+      said = spells.spelled.banked;
+      banked = spells.banked;
       chains = parts.chains;
       named = parts.named;
       snapshots = then.snapshots;
       held = record { of_chart = cc; of_roster = cc; of_tiles = cc; of_board = cc; of_tables = first.texts; of_snapshots = then.texts };
       short = first.short;
       shown = then.shown;
-      written = same_bytes spells.version spells.directory (directory_for texts parts.chains world then.snapshots) bytes spells.spelled.spelled directory;
+      written = same_bytes spells.version spells.directory (directory_for spells.directory.bank texts parts.chains world then.snapshots) bytes spells.spelled.spelled directory;
     }

@@ -1,5 +1,5 @@
 -- What a directory says, and its bytes. Numbers are big-endian.
-use Rattle.std.specs.Prelude.{◌≡◌, ◌≢◌, ◌⊎◌, ℕ, ◌^◌, ◌<◌, ◌≤◌, List, [], ◌∷◌, ◌++◌, length, slice_get, Some, All, AllPairs}
+use Rattle.std.specs.Prelude.{◌≡◌, ◌≢◌, ◌⊎◌, ℕ, ◌^◌, ◌<◌, ◌≤◌, Option, None, List, [], ◌∷◌, ◌++◌, length, slice_get, Some, All, AllPairs}
 use Rattle.std.specs.List.{flat_map}
 use Rattle.rr_turns.specs.declared.limits.TheConstants.{LAST_STAMP}
 use Rattle.rr_reading.specs.declared.dir.directory.TheConstants.{MOST_KEPT, MOST_SNAPSHOTS, MOST_SNAPSHOT_BYTES, MOST_TABLES, MOST_TEXT}
@@ -10,17 +10,19 @@ use Rattle.rr_reading.specs.declared.dir.directory.SnapshotEntry.{SnapshotEntry}
 use Rattle.rr_reading.specs.declared.dir.directory.TableEntry.{TableEntry}
 use Rattle.rr_reading.specs.declared.dir.directory.Dir.{Dir}
 use Rattle.rr_reading.specs.declared.dir.version.Version.{Version}
-use Rattle.rr_reading.specs.declared.dir.version.Version.TheVariants.{One}
+use Rattle.rr_reading.specs.declared.dir.version.Version.TheVariants.{One, Two}
 use Rattle.rr_words.specs.Spelling.Number.{spelled_number}
 
--- where the kit stands, the tables in order of opening, and the snapshots of their games, by table and rising
+-- what the bank begins with, if it says that; where the kit stands; the tables in order of opening; and the snapshots of
+-- their games, by table and rising
 pub record Directory : Type 0 where
+  pub bank : Option ℕ
   pub kit : KitChains
   pub tables : List TableEntry
   pub snapshots : List SnapshotEntry
 
 abbrev pub directory_of : Dir → Directory
-directory_of dir = record { kit = dir.kit; tables = dir.tables.items; snapshots = dir.snapshots.items }
+directory_of dir = record { bank = dir.bank; kit = dir.kit; tables = dir.tables.items; snapshots = dir.snapshots.items }
 
 -- a chain's head and length
 abbrev pub spelled_chain : ChainRef → List ℕ
@@ -57,10 +59,27 @@ spelled_snapshots [] = []
 spelled_snapshots (first ∷ others) =
     spelled_number 2 (length (first ∷ others)) ++ flat_map spelled_snapshot (first ∷ others)
 
+-- the bank, if it is said
+abbrev pub spelled_bank : Option ℕ → List ℕ
+spelled_bank None = []
+spelled_bank (Some bank) = spelled_number 8 bank
+
+-- and all that comes after it
+abbrev pub spelled_rest : Directory → List ℕ
+spelled_rest directory =
+    spelled_kit directory.kit ++ (spelled_tables directory.tables ++ spelled_snapshots directory.snapshots)
+
 -- the bytes of a directory in the form of a version
 abbrev pub spelling : Version → Directory → List ℕ
-spelling One directory =
-    spelled_kit directory.kit ++ (spelled_tables directory.tables ++ spelled_snapshots directory.snapshots)
+spelling One directory = spelled_rest directory
+spelling Two directory = spelled_bank directory.bank ++ spelled_rest directory
+
+-- a directory of the first version says no bank, and one of the second says it
+abbrev pub FitsVersion : Version → Option ℕ → Type 0
+FitsVersion One None = Unit {0}
+FitsVersion One (Some bank) = ⊥
+FitsVersion Two None = ⊥
+FitsVersion Two (Some bank) = bank < 2 ^ 64
 
 -- a page is a number of eight bytes, and a chain's length one of four
 pub record IsChain (chain : ChainRef) : Type 0 where
@@ -143,12 +162,19 @@ pub record BeginsTables (bytes : List ℕ) : Type 0 where
   pub rest : List ℕ
   pub spelled : bytes ≡ spelled_number 2 count ++ (spelled_table table ++ rest)
 
--- in the form of the version a kit stands in front, and tables begin behind it
-abbrev pub BeginsDirectory : Version → List ℕ → Type 0
-BeginsDirectory One bytes =
+-- a kit comes first, and tables begin after it
+abbrev pub BeginsKit : List ℕ → Type 0
+BeginsKit bytes =
     (kit : KitChains) × (rest : List ℕ) × IsKit kit × (bytes ≡ spelled_kit kit ++ rest) × BeginsTables rest
+
+-- the same in the form of a version
+abbrev pub BeginsDirectory : Version → List ℕ → Type 0
+BeginsDirectory One bytes = BeginsKit bytes
+BeginsDirectory Two bytes =
+    (bank : ℕ) × (rest : List ℕ) × (bank < 2 ^ 64) × (bytes ≡ spelled_number 8 bank ++ rest) × BeginsKit rest
 
 -- the bytes are those of this directory in the form of the version
 pub record Spells (version : Version) (bytes : List ℕ) (directory : Directory) : Type 0 where
   pub is_directory : IsDirectory directory
+  pub banked : FitsVersion version directory.bank
   pub spelled : bytes ≡ spelling version directory

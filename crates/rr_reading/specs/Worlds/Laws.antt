@@ -1,6 +1,6 @@
 -- The laws of worlds and their spelling.
-use Rattle.std.specs.Prelude.{◌≡◌, ℕ, List, ◌++◌}
-use Rattle.rr_reading.specs.Dir.Directory.{IsDirectory}
+use Rattle.std.specs.Prelude.{◌≡◌, ℕ, Option, List, ◌++◌}
+use Rattle.rr_reading.specs.Dir.Directory.{FitsVersion, IsDirectory}
 use Rattle.rr_reading.specs.Dir.Heads.{Heads}
 use Rattle.rr_reading.specs.Dir.Version.{version_number}
 use Rattle.rr_reading.specs.declared.dir.version.Version.{Version}
@@ -21,29 +21,33 @@ module _ (rules : WorldRules) where
 
   -- the directory that is written of a world and of snapshots in the form of a version, behind chains that hold them,
   -- names those chains and spells the world
-  pub record IsReadBack (version : Version) (texts : TextChains) (chains : TableChains) (world : World)
+  pub record IsReadBack (version : Version) (bank : Option ℕ) (texts : TextChains) (chains : TableChains) (world : World)
       (snapshots : List Snapshot) : Type 0 where
-    pub named : Heads (version_number version) (bytes_for version texts chains world snapshots) (heads_of (chains_of texts (all_of chains)))
-    pub spells : Spells rules (version_number version) (bytes_for version texts chains world snapshots) (texts_of (chains_of texts (all_of chains))) world
+    pub named : Heads (version_number version) (bytes_for version bank texts chains world snapshots) (heads_of (chains_of texts (all_of chains)))
+    pub spells : Spells rules (version_number version) (bytes_for version bank texts chains world snapshots) (texts_of (chains_of texts (all_of chains))) world
 
   abbrev pub WrittenIsRead : Type 0
   WrittenIsRead =
-      (version : Version) (texts : TextChains) (chains : TableChains) (world : World) (snapshots : List Snapshot)
+      (version : Version) (bank : Option ℕ) (texts : TextChains) (chains : TableChains) (world : World) (snapshots : List Snapshot)
       → HoldTexts texts chains world snapshots → AreShort world.tables → AreShown rules world snapshots
-      → IsDirectory (directory_for texts chains world snapshots) → IsReadBack version texts chains world snapshots
+      → FitsVersion version bank → rules.banks world.roster bank
+      → IsDirectory (directory_for bank texts chains world snapshots) → IsReadBack version bank texts chains world snapshots
 
   -- A directory that names chains and spells a world with them, in a file of the version of this number, is the one that
   -- is written of the world and of snapshots, and the chains hold these: first the tables', and then the snapshots'.
   pub record IsWritten (number : ℕ) (bytes : List ℕ) (texts : TextChains) (others : List HeldChain) (world : World) : Type 0 where
     pub version : Version
     pub numbered : version_number version ≡ number
+    pub bank : Option ℕ
+    pub said : FitsVersion version bank
+    pub banked : rules.banks world.roster bank
     pub chains : TableChains
     pub named : others ≡ all_of chains
     pub snapshots : List Snapshot
     pub held : HoldTexts texts chains world snapshots
     pub short : AreShort world.tables
     pub shown : AreShown rules world snapshots
-    pub written : bytes ≡ bytes_for version texts chains world snapshots
+    pub written : bytes ≡ bytes_for version bank texts chains world snapshots
 
   abbrev pub ReadIsWritten : Type 0
   ReadIsWritten =
@@ -63,7 +67,8 @@ module _ (rules : WorldRules) where
 
   abbrev pub CheckpointsSpell : Type 0
   CheckpointsSpell =
-      (version : Version) (texts : TextChains) (laid : List LaidChain) (drafts : List Draft) (world : World) (snapshots : List Snapshot)
-      → HoldTexts texts (table_chains laid drafts) world snapshots → AreShort world.tables → AreShown rules world snapshots
-      → IsDirectory (directory_for texts (table_chains laid drafts) world snapshots)
-      → IsCheckpointOf version texts laid drafts world (bytes_for version texts (table_chains laid drafts) world snapshots)
+      (version : Version) (bank : Option ℕ) (texts : TextChains) (laid : List LaidChain) (drafts : List Draft) (world : World)
+      → (snapshots : List Snapshot) → HoldTexts texts (table_chains laid drafts) world snapshots → AreShort world.tables
+      → AreShown rules world snapshots → FitsVersion version bank → rules.banks world.roster bank
+      → IsDirectory (directory_for bank texts (table_chains laid drafts) world snapshots)
+      → IsCheckpointOf version texts laid drafts world (bytes_for version bank texts (table_chains laid drafts) world snapshots)

@@ -1,5 +1,5 @@
 -- Which world a directory and its chains spell, and what is written of a world.
-use Rattle.std.specs.Prelude.{◌≡◌, ℕ, List, [], ◌∷◌, ◌++◌, length, map}
+use Rattle.std.specs.Prelude.{◌≡◌, ℕ, Option, List, [], ◌∷◌, ◌++◌, length, map}
 use Rattle.rr_reading.specs.declared.dir.directory.ChainRef.{ChainRef}
 use Rattle.rr_reading.specs.declared.dir.directory.SnapshotEntry.{SnapshotEntry}
 use Rattle.rr_reading.specs.declared.dir.directory.TableEntry.{TableEntry}
@@ -37,13 +37,14 @@ ShowGames rules world (entry ∷ entries) texts =
     (text : List ℕ) × (more : List (List ℕ)) × (texts ≡ text ∷ more)
     × IsShown rules world entry.table entry.kept text × ShowGames rules world entries more
 
--- A directory of this version, and the texts of the chains that it names, are this world, and each of its snapshots is
--- the game that the commands play.
+-- A directory of this version, and the texts of the chains that it names, are this world; it says of the bank what it may;
+-- and each of its snapshots is the game that the commands play.
 pub record Spells (rules : WorldRules) (number : ℕ) (bytes : List ℕ) (texts : List (List ℕ)) (world : World) : Type 0 where
   pub version : Version
   pub numbered : version_number version ≡ number
   pub directory : Directory
   pub spelled : dir.Spells version bytes directory
+  pub banked : rules.banks world.roster directory.bank
   pub of_tables : List (List ℕ)
   pub of_snapshots : List (List ℕ)
   pub of_chains : texts ≡ world.chart ∷ world.roster ∷ world.tiles ∷ world.board ∷ (of_tables ++ of_snapshots)
@@ -89,10 +90,11 @@ pub record TableChains : Type 0 where
 abbrev pub all_of : TableChains → List HeldChain
 all_of chains = chains.tables ++ chains.snapshots
 
--- the directory of a world and of snapshots whose chains stand there
-abbrev pub directory_for : TextChains → TableChains → World → List Snapshot → Directory
-directory_for texts chains world snapshots =
+-- the directory of a world and of snapshots whose chains stand there, with this bank, if it says one
+abbrev pub directory_for : Option ℕ → TextChains → TableChains → World → List Snapshot → Directory
+directory_for bank texts chains world snapshots =
     record {
+      bank = bank;
       kit = record { chart = ref_of texts.chart; roster = ref_of texts.roster; tiles = ref_of texts.tiles; board = ref_of texts.board };
       tables = entries_for chains.tables world.tables;
       snapshots = snapshot_entries chains.snapshots snapshots;
@@ -108,8 +110,8 @@ pub record HoldTexts (texts : TextChains) (chains : TableChains) (world : World)
   pub of_snapshots : texts_of chains.snapshots ≡ map (λ (snapshot : Snapshot). snapshot.bytes) snapshots
 
 -- the bytes of that directory in the form of a version
-abbrev pub bytes_for : Version → TextChains → TableChains → World → List Snapshot → List ℕ
-bytes_for version texts chains world snapshots = spelling version (directory_for texts chains world snapshots)
+abbrev pub bytes_for : Version → Option ℕ → TextChains → TableChains → World → List Snapshot → List ℕ
+bytes_for version bank texts chains world snapshots = spelling version (directory_for bank texts chains world snapshots)
 
 -- The chains of a checkpoint: those of the texts stay where they stand, each table's is written, and of the snapshots
 -- some stay and some are written.

@@ -1,5 +1,5 @@
 -- What a store's file holds, by the words of its commands.
-use Rattle.std.specs.Prelude.{◌≡◌, ℕ, List, [], ◌∷◌, slice_get, take, Some, All}
+use Rattle.std.specs.Prelude.{◌≡◌, ℕ, List, [], ◌∷◌, slice_get, take, Option, Some, All}
 use Rattle.std.specs.List.{flat_map}
 use Rattle.rr_reading.specs.Dir.Kept.{IsShort, spelled_command}
 use Rattle.rr_turns.specs.Kept.{Kept}
@@ -25,10 +25,12 @@ pub record Snapshot : Type 0 where
   pub bytes : List ℕ
 
 -- How records change worlds: a line, the world before it and the world behind it. And which bytes show a game: a world
--- with the texts of the kit, the commands that were played, and the bytes.
+-- with the texts of the kit, the commands that were played, and the bytes. And what a directory may say of the bank of
+-- this roster's text, or whether it may say nothing.
 pub record WorldRules : Type 1 where
   pub takes : List ℕ → World → World → Type 0
   pub shows : World → List (List ℕ) → List ℕ → Type 0
+  pub banks : List ℕ → Option ℕ → Type 0
 
 -- the bytes show the game that the first so many commands of the table at this place make
 pub record IsShown (rules : WorldRules) (world : World) (place kept : ℕ) (bytes : List ℕ) : Type 0 where

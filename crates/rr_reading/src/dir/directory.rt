@@ -68,10 +68,12 @@ pub struct SnapshotEntry {
     pub chain: ChainRef,
 }
 
-/// A store's directory: its kit; its tables in order of opening, 64 at most, each with a name of its own; and the
-/// snapshots of their games, 4,096 at most, by table and rising.
+/// A store's directory: in version 2 what the bank begins with; its kit; its tables in order of opening, 64 at most, each
+/// with a name of its own; and the snapshots of their games, 4,096 at most, by table and rising.
 #[derive(Debug, Drop)]
 pub struct Dir {
+    /// What the bank begins with, in dollars; nothing in version 1.
+    pub bank: Option<u64>,
     pub kit: KitChains,
     pub tables: Vec<TableEntry>,
     pub snapshots: Vec<SnapshotEntry>,
@@ -91,7 +93,8 @@ impl Dir {
     {
         let mut cursor = Cursor::of(bytes);
         match version {
-            Version::One => reading::read_last(alloc, &mut cursor),
+            Version::One => reading::read_unbanked(alloc, &mut cursor),
+            Version::Two => reading::read_banked(alloc, &mut cursor),
         }
     }
 
@@ -108,7 +111,8 @@ impl Dir {
     {
         let before = out.len();
         let written = match version {
-            Version::One => writing::write_dir(self, out),
+            Version::One => writing::write_rest(self, out),
+            Version::Two => writing::write_banked(self, out),
         };
         if written.is_err() {
             out.truncate(before);

@@ -1,13 +1,13 @@
 //! How the parts of a directory are read.
-ghost use Rattle.std.specs.Prelude.{◌≡◌, ◌≢◌, ℕ, List, ◌<◌, ◌≤◌, ◌^◌, ◌++◌, ◌↔◌, length, All, AllPairs, Any, IsTrue, MatchOption, IfOk, IsErrOf};
+ghost use Rattle.std.specs.Prelude.{◌≡◌, ◌≢◌, None, ℕ, List, ◌<◌, ◌≤◌, ◌^◌, ◌++◌, ◌↔◌, length, All, AllPairs, Any, IsTrue, MatchOption, IfOk, IsErrOf};
 ghost use Rattle.std.specs.List.{flat_map};
 ghost use Rattle.rr_words.specs.Name.{IsTableName};
-ghost use Rattle.rr_reading.specs.Dir.Directory.{Directory, BeginsDirectory, BeginsTables, Spells, directory_of, spelled_chain, spelled_kit, spelled_name, spelled_state, spelled_table, spelled_tables, HasChains, FitsBytes, IsChain, IsKit, IsTable, AreTables, IsSnapshot, AreSnapshots, ComesBefore, spelled_snapshot, spelled_snapshots};
+ghost use Rattle.rr_reading.specs.Dir.Directory.{Directory, IsDirectory, BeginsDirectory, BeginsKit, BeginsTables, Spells, directory_of, spelled_rest, spelled_chain, spelled_kit, spelled_name, spelled_state, spelled_table, spelled_tables, HasChains, FitsBytes, IsChain, IsKit, IsTable, AreTables, IsSnapshot, AreSnapshots, ComesBefore, spelled_snapshot, spelled_snapshots};
 ghost use Rattle.rr_words.specs.Spelling.Number.{spelled_number};
 ghost use Rattle.rr_reading.specs.declared.dir.directory.KitChains.{KitChains as OfKit};
 ghost use Rattle.rr_reading.specs.declared.dir.directory.SnapshotEntry.{SnapshotEntry as OfSnapshot};
 ghost use Rattle.rr_reading.specs.declared.dir.directory.TableEntry.{TableEntry as OfTable};
-ghost use Rattle.rr_reading.specs.declared.dir.version.Version.TheVariants.{One};
+ghost use Rattle.rr_reading.specs.declared.dir.version.Version.TheVariants.{One, Two};
 
 use crate::dir::directory::{
     ChainRef, Dir, KitChains, MOST_KEPT, MOST_SNAPSHOT_BYTES, MOST_SNAPSHOTS, MOST_TABLES,
@@ -19,11 +19,32 @@ use rr_words::Name;
 use rr_words::spelling::Cursor;
 use std::alloc::Global;
 
-// A directory that ends with the bytes.
-pub(crate) fn read_last(alloc: Global, cursor: &mut Cursor) -> Result<Dir, Fault>
+// A directory of version 1, with which the bytes end.
+pub(crate) fn read_unbanked(alloc: Global, cursor: &mut Cursor) -> Result<Dir, Fault>
     ensures found { IfOk result (λ dir. Spells One cursor.old (directory_of dir)) }
     ensures damaged { IsErrOf result Fault.Damaged → (d : Directory) → Spells One cursor.old d → ⊥ }
     ensures memory { IsErrOf result Fault.OutOfMemory → BeginsDirectory One cursor.old }
+{
+    read_rest(alloc, cursor, None)
+}
+
+// A directory of version 2, which begins with the bank. The bytes end with it.
+pub(crate) fn read_banked(alloc: Global, cursor: &mut Cursor) -> Result<Dir, Fault>
+    ensures found { IfOk result (λ dir. Spells Two cursor.old (directory_of dir)) }
+    ensures damaged { IsErrOf result Fault.Damaged → (d : Directory) → Spells Two cursor.old d → ⊥ }
+    ensures memory { IsErrOf result Fault.OutOfMemory → BeginsDirectory Two cursor.old }
+{
+    let Some(bank) = cursor.u64() else {
+        return Err(Fault::Damaged);
+    };
+    read_rest(alloc, cursor, Some(bank))
+}
+
+// What both versions have, after this bank or none. The bytes end with it.
+fn read_rest(alloc: Global, cursor: &mut Cursor, bank: Option<u64>) -> Result<Dir, Fault>
+    ensures found { IfOk result (λ dir. IsDirectory (directory_of dir) × (cursor.old ≡ spelled_rest (directory_of dir)) × (dir.bank ≡ bank)) }
+    ensures damaged { IsErrOf result Fault.Damaged → (d : Directory) → IsDirectory d → cursor.old ≢ spelled_rest d }
+    ensures memory { IsErrOf result Fault.OutOfMemory → BeginsKit cursor.old }
 {
     let Some(kit) = next_kit(cursor) else {
         return Err(Fault::Damaged);
@@ -31,6 +52,7 @@ pub(crate) fn read_last(alloc: Global, cursor: &mut Cursor) -> Result<Dir, Fault
     let tables = next_tables(alloc, cursor)?;
     let snapshots = last_snapshots(alloc, cursor, &tables)?;
     Ok(Dir {
+        bank,
         kit,
         tables,
         snapshots,

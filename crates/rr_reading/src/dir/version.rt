@@ -5,12 +5,14 @@ ghost use Rattle.rr_reading.specs.declared.dir.version.Version.{Version as OfVer
 /// The version of a file, which chooses the form of its directory.
 #[derive(Clone, Copy, Debug)]
 pub enum Version {
-    /// Version 1.
+    /// Version 1. Its directory says nothing of the bank.
     One,
+    /// Version 2. Its directory begins with the money of the bank.
+    Two,
 }
 
 /// The version of the files that are written.
-pub const NEWEST: Version = Version::One;
+pub const NEWEST: Version = Version::Two;
 
 impl Version {
     /// The version of this number, if there is one.
@@ -21,6 +23,7 @@ impl Version {
     {
         match number {
             1 => Some(Version::One),
+            2 => Some(Version::Two),
             _ => None,
         }
     }
@@ -31,6 +34,7 @@ impl Version {
     {
         match self {
             Version::One => 1,
+            Version::Two => 2,
         }
     }
 }

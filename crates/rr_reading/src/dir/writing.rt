@@ -1,18 +1,39 @@
 //! How the parts of a directory are written.
 ghost use Rattle.std.specs.Prelude.{◌≡◌, ◌++◌, ◌<◌, ◌^◌, length, OnOk, vec_len};
-ghost use Rattle.rr_reading.specs.Dir.Directory.{directory_of, spelling, spelled_chain, spelled_kit, spelled_snapshot, spelled_snapshots, spelled_table, spelled_tables};
+ghost use Rattle.rr_reading.specs.Dir.Directory.{directory_of, spelling, spelled_bank, spelled_rest, spelled_chain, spelled_kit, spelled_snapshot, spelled_snapshots, spelled_table, spelled_tables};
 ghost use Rattle.rr_reading.specs.Dir.Number.{Continues};
 ghost use Rattle.rr_words.specs.Spelling.Number.{spelled_number};
-ghost use Rattle.rr_reading.specs.declared.dir.version.Version.TheVariants.{One};
+ghost use Rattle.rr_reading.specs.declared.dir.version.Version.TheVariants.{Two};
 
 use crate::dir::directory::{ChainRef, Dir, KitChains, SnapshotEntry, TableEntry};
 use crate::dir::fault::Fault;
 use byteorder::{BigEndian, ByteOrder};
 
-pub(crate) fn write_dir(dir: &Dir, out: &mut Vec<u8>) -> Result<(), Fault>
+// A directory of version 2: the bank, and then what both versions have.
+pub(crate) fn write_banked(dir: &Dir, out: &mut Vec<u8>) -> Result<(), Fault>
     requires tables { vec_len dir.now.tables < 2 ^ 16 }
     requires snapshots { vec_len dir.now.snapshots < 2 ^ 16 }
-    ensures ok { OnOk result (out.new.items ≡ out.old.items ++ spelling One (directory_of dir.now)) }
+    ensures ok { OnOk result (out.new.items ≡ out.old.items ++ spelling Two (directory_of dir.now)) }
+    ensures kept { Continues out.old.items out.new.items }
+{
+    write_bank(dir.bank, out)?;
+    write_rest(dir, out)
+}
+
+fn write_bank(bank: Option<u64>, out: &mut Vec<u8>) -> Result<(), Fault>
+    ensures ok { OnOk result (out.new.items ≡ out.old.items ++ spelled_bank bank) }
+    ensures kept { Continues out.old.items out.new.items }
+{
+    match bank {
+        Some(bank) => write_u64(bank, out),
+        None => Ok(()),
+    }
+}
+
+pub(crate) fn write_rest(dir: &Dir, out: &mut Vec<u8>) -> Result<(), Fault>
+    requires tables { vec_len dir.now.tables < 2 ^ 16 }
+    requires snapshots { vec_len dir.now.snapshots < 2 ^ 16 }
+    ensures ok { OnOk result (out.new.items ≡ out.old.items ++ spelled_rest (directory_of dir.now)) }
     ensures kept { Continues out.old.items out.new.items }
 {
     write_kit(&dir.kit, out)?;

@@ -24,8 +24,9 @@ pub(crate) struct Plan {
     pub(crate) states: Vec<Vec<u8>>,
 }
 
-pub(crate) fn whole_plan(rt: &(impl Abort + AllocGlobal)) -> Plan {
-    let file = new_file(rt);
+/// The plan of the run on a new file of a version.
+pub(crate) fn whole_plan(rt: &(impl Abort + AllocGlobal), version: u16) -> Plan {
+    let file = new_file(rt, version);
     let lines = all_lines(rt);
     let states = all_states(rt, &file, &lines);
     Plan {

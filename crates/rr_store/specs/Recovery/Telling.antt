@@ -1,5 +1,5 @@
 -- The world that a file tells, and why one tells none.
-use Rattle.std.specs.Prelude.{◌≡◌, ◌⊎◌, ◌++◌, length}
+use Rattle.std.specs.Prelude.{◌≡◌, ◌⊎◌, ◌++◌, ℕ, List, Option, None, Some, length}
 use Rattle.rr_game.specs.History.GameBytes.{SpellsOneGame}
 use Rattle.rr_images.specs.Holding.{texts_of}
 use Rattle.rr_kit.specs.declared.kit.Kit.{Kit}
@@ -7,7 +7,8 @@ use Rattle.rr_kit.specs.Kits.{IsWrongKit, KitTexts, SpellsKit}
 use Rattle.rr_log.specs.Opening.Opened.{HasDamagedRecord}
 use Rattle.rr_reading.specs.Held.{Held, chains_of}
 use Rattle.rr_tables.specs.Records.Played.{ArePlayedTables}
-use Rattle.rr_tables.specs.Records.Taking.{Takes, table_rules}
+use Rattle.rr_roster.specs.Reading.{HasBank, NamesBank}
+use Rattle.rr_tables.specs.Records.Taking.{SaysBank, Takes, table_rules}
 use Rattle.rr_tables.specs.Records.Words.{IsInWords, kit_texts}
 use Rattle.rr_tables.specs.Records.World.{World}
 use Rattle.rr_reading.specs.Worlds.Spelling.{Spells}
@@ -26,13 +27,23 @@ abbrev pub SpellBy : WorldRules → Held → words.World → Type 0
 SpellBy rules has world =
     Spells rules has.root.version has.chain.text (texts_of (chains_of has.texts (has.tables ++ has.snapshots))) world
 
+-- a directory says no other number for the bank than the roster's
+abbrev pub SaysNumber : List ℕ → Option ℕ → Type 0
+SaysNumber text None = Unit {0}
+SaysNumber text (Some bank) = HasBank text bank
+
+-- a text of the kit is wrong; or the directory says no bank, and the roster names one
+abbrev pub IsWrongFor : Option ℕ → KitTexts → Type 0
+IsWrongFor None texts = IsWrongKit texts ⊎ NamesBank texts.roster
+IsWrongFor (Some bank) texts = IsWrongKit texts
+
 -- what is asked of a snapshot before it is trusted: nothing; or that it is a game that has played as many commands as it
 -- tells
 abbrev pub any_bytes : WorldRules
-any_bytes = record { takes = Takes; shows = λ world written bytes. Unit {0} }
+any_bytes = record { takes = Takes; shows = λ world written bytes. Unit {0}; banks = λ text bank. Unit {0} }
 
 abbrev pub any_game : WorldRules
-any_game = record { takes = Takes; shows = λ world written bytes. SpellsOneGame bytes (length written) }
+any_game = record { takes = Takes; shows = λ world written bytes. SpellsOneGame bytes (length written); banks = SaysNumber }
 
 -- the chains of the root spell a world, whose tables by their commands are these
 pub record IsBase (has : Held) (base : World) (world : words.World) : Type 0 where
@@ -78,7 +89,7 @@ HasTrueSnapshots has = (world : words.World) → IsWritten has world → SpellBy
 pub record HasWrongKit (has : Held) : Type 0 where
   pub world : words.World
   pub written : IsWritten has world
-  pub wrong : IsWrongKit (texts_in has.texts)
+  pub wrong : IsWrongFor has.directory.bank (texts_in has.texts)
 
 -- form and kit are right, and no tables in these words were played
 pub record HasUnplayedTable (has : Held) : Type 0 where
@@ -86,6 +97,7 @@ pub record HasUnplayedTable (has : Held) : Type 0 where
   pub written : IsWritten has world
   pub kit : Kit
   pub right : SpellsKit (texts_in has.texts) kit
+  pub banked : SaysBank has.texts.roster.text has.directory.bank
   pub unplayed : (base : World) → IsInWords base world → ArePlayedTables kit base → ⊥
 
 -- the tables are right, and a near or a far record has no lawful request at its turn, or a record is damaged

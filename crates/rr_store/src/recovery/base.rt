@@ -17,7 +17,7 @@ use crate::recovery::Fault;
 use crate::recovery::plays::Restored;
 use crate::recovery::shown::{Snapshots, tell_games};
 use crate::recovery::tables::restore_tables;
-use crate::recovery::texts::read_kit;
+use crate::recovery::texts::{read_kit, tell_bank};
 use crate::recovery::words::tell_words;
 use rr_disk::Disk;
 use rr_pages::Damage;
@@ -34,12 +34,13 @@ pub(crate) fn recover_base<D: Disk>(
     disk: &mut D,
     entries: &[TableEntry],
     texts: &KitTexts,
+    bank: Option<u64>,
     chains: &mut Commands,
     snapshots: Snapshots,
 ) -> Result<Restored<Tables>, Fault>
     ensures right { IfOk result (λ restored. D.Honest disk.new
-        → IsOfDirectory (named_by (D.state disk.old).content entries.now chains.old snapshots.entry)
-        → IsRightBase (named_by (D.state disk.old).content entries.now chains.old snapshots.entry)
+        → IsOfDirectory (named_by (D.state disk.old).content bank (chains_held texts.now) entries.now chains.old snapshots.entry)
+        → IsRightBase (named_by (D.state disk.old).content bank (chains_held texts.now) entries.now chains.old snapshots.entry)
         (chains_held texts.now) restored.value.kit (world_of restored.value)) }
     // Where each snapshot shows the play of the commands before it, each table was played.
     ensures played { IfOk result (λ restored. AreShown restored.value.kit snapshots.entry (world_of restored.value)
@@ -52,21 +53,25 @@ pub(crate) fn recover_base<D: Disk>(
         (world_of restored.value) restored.plays) }
     ensures few_plays { IfOk result (λ restored. restored.plays ≤ MOST_TABLES * 2 ^ 33) }
     ensures refused { IfErr result (λ fault. D.Honest disk.new
-        → IsOfDirectory (named_by (D.state disk.old).content entries.now chains.old snapshots.entry)
-        → RefusesBase (named_by (D.state disk.old).content entries.now chains.old snapshots.entry)
+        → IsOfDirectory (named_by (D.state disk.old).content bank (chains_held texts.now) entries.now chains.old snapshots.entry)
+        → RefusesBase (named_by (D.state disk.old).content bank (chains_held texts.now) entries.now chains.old snapshots.entry)
         (chains_held texts.now) fault) }
     ensures only_reads { OnlyReads D.Disk disk.old disk.new chains.old chains.new result }
 {
-    match restore_base(alloc, disk, entries, texts, chains, snapshots) {
+    match restore_base(alloc, disk, entries, texts, bank, chains, snapshots) {
         Ok(restored) => Ok(restored),
         Err(Fault::Disk(fault)) => Err(Fault::Disk(fault)),
         Err(Fault::Damaged(damage)) => {
             let refused = Fault::Damaged(damage);
-            Err(refusal(disk, entries, chains, snapshots, refused))
+            Err(refusal(
+                alloc, disk, entries, texts, bank, chains, snapshots, refused,
+            ))
         }
         Err(Fault::OutOfMemory) => {
             let refused = Fault::OutOfMemory;
-            Err(refusal(disk, entries, chains, snapshots, refused))
+            Err(refusal(
+                alloc, disk, entries, texts, bank, chains, snapshots, refused,
+            ))
         }
     }
 }
@@ -77,12 +82,13 @@ fn restore_base<D: Disk>(
     disk: &mut D,
     entries: &[TableEntry],
     texts: &KitTexts,
+    bank: Option<u64>,
     chains: &mut Commands,
     snapshots: Snapshots,
 ) -> Result<Restored<Tables>, Fault>
     ensures right { IfOk result (λ restored. D.Honest disk.new
-        → IsOfDirectory (named_by (D.state disk.old).content entries.now chains.old snapshots.entry)
-        → IsRightBase (named_by (D.state disk.old).content entries.now chains.old snapshots.entry)
+        → IsOfDirectory (named_by (D.state disk.old).content bank (chains_held texts.now) entries.now chains.old snapshots.entry)
+        → IsRightBase (named_by (D.state disk.old).content bank (chains_held texts.now) entries.now chains.old snapshots.entry)
         (chains_held texts.now) restored.value.kit (world_of restored.value)) }
     ensures played { IfOk result (λ restored. AreShown restored.value.kit snapshots.entry (world_of restored.value)
         → ArePlayed restored.value × ArePlayedTables restored.value.kit (world_of restored.value)) }
@@ -95,32 +101,35 @@ fn restore_base<D: Disk>(
     ensures few_plays { IfOk result (λ restored. restored.plays ≤ MOST_TABLES * 2 ^ 33) }
     // Whether the form is right isn't told.
     ensures refused { IfErr result (λ fault. D.Honest disk.new
-        → IsOfDirectory (named_by (D.state disk.old).content entries.now chains.old snapshots.entry)
-        → IsWellFormed (named_by (D.state disk.old).content entries.now chains.old snapshots.entry)
-        → RefusesBase (named_by (D.state disk.old).content entries.now chains.old snapshots.entry)
+        → IsOfDirectory (named_by (D.state disk.old).content bank (chains_held texts.now) entries.now chains.old snapshots.entry)
+        → IsWellFormed (named_by (D.state disk.old).content bank (chains_held texts.now) entries.now chains.old snapshots.entry)
+        → RefusesBase (named_by (D.state disk.old).content bank (chains_held texts.now) entries.now chains.old snapshots.entry)
         (chains_held texts.now) fault) }
     ensures only_reads { OnlyReads D.Disk disk.old disk.new chains.old chains.new result }
 {
-    let kit = read_kit(alloc, texts)?;
+    let kit = read_kit(alloc, texts, bank)?;
     let restored = restore_tables(alloc, disk, kit, entries, chains, snapshots)?;
     Ok(restored)
 }
 
 /// What is told where the tables are refused with a fault that isn't the device's: a broken form comes before it.
 fn refusal<D: Disk>(
+    alloc: Global,
     disk: &mut D,
     entries: &[TableEntry],
+    texts: &KitTexts,
+    bank: Option<u64>,
     chains: &mut Commands,
     snapshots: Snapshots,
     refused: Fault,
 ) -> Fault
     requires { IsOfDevice refused → ⊥ }
     ensures told { D.Honest disk.new
-        → IsOfDirectory (named_by (D.state disk.old).content entries.now chains.old snapshots.entry)
-        → TellsInPlace (named_by (D.state disk.old).content entries.now chains.old snapshots.entry) refused result }
+        → IsOfDirectory (named_by (D.state disk.old).content bank (chains_held texts.now) entries.now chains.old snapshots.entry)
+        → TellsInPlace (named_by (D.state disk.old).content bank (chains_held texts.now) entries.now chains.old snapshots.entry) refused result }
     ensures only_reads { OnlyReadsTold D.Disk disk.old disk.new chains.old chains.new result }
 {
-    match tell_form(disk, entries, chains, snapshots) {
+    match tell_form(alloc, disk, entries, texts, bank, chains, snapshots) {
         Ok(true) => refused,
         Ok(false) => Fault::Damaged(Damage::Form),
         Err(fault) => fault,
@@ -129,17 +138,20 @@ fn refusal<D: Disk>(
 
 /// Whether the kept words are those of lines, and each snapshot is a game that has played as many commands as it tells.
 fn tell_form<D: Disk>(
+    alloc: Global,
     disk: &mut D,
     entries: &[TableEntry],
+    texts: &KitTexts,
+    bank: Option<u64>,
     chains: &mut Commands,
     snapshots: Snapshots,
 ) -> Result<bool, Fault>
     ensures told { IfOk result (λ told. D.Honest disk.new
-        → IsOfDirectory (named_by (D.state disk.old).content entries.now chains.old snapshots.entry)
-        → (IsTrue told ↔ IsWellFormed (named_by (D.state disk.old).content entries.now chains.old snapshots.entry))) }
+        → IsOfDirectory (named_by (D.state disk.old).content bank (chains_held texts.now) entries.now chains.old snapshots.entry)
+        → (IsTrue told ↔ IsWellFormed (named_by (D.state disk.old).content bank (chains_held texts.now) entries.now chains.old snapshots.entry))) }
     // Memory is wanted behind right words alone.
-    ensures refused { IfErr result (λ fault. D.Honest disk.new → (texts : TextChains)
-        → RefusesBase (named_by (D.state disk.old).content entries.now chains.old snapshots.entry) texts fault) }
+    ensures refused { IfErr result (λ fault. D.Honest disk.new → (others : TextChains)
+        → RefusesBase (named_by (D.state disk.old).content bank (chains_held texts.now) entries.now chains.old snapshots.entry) others fault) }
     ensures only_reads { OnlyReads D.Disk disk.old disk.new chains.old chains.new result }
 {
     let told = tell_words(disk, entries, chains)?;
@@ -147,5 +159,9 @@ fn tell_form<D: Disk>(
         return Ok(false);
     }
     let games = tell_games(snapshots)?;
-    Ok(games)
+    if !games {
+        return Ok(false);
+    }
+    let banked = tell_bank(alloc, texts, bank)?;
+    Ok(banked)
 }

@@ -1,5 +1,5 @@
 -- Which lines of records are lawful in a world in words, and to which world they lead; and the files of such records.
-use Rattle.std.specs.Prelude.{◌≡◌, ℕ, List, length}
+use Rattle.std.specs.Prelude.{◌≡◌, ℕ, List, Option, None, Some, length}
 use Rattle.rr_code.specs.declared.command.Command.{Command}
 use Rattle.rr_game.specs.declared.game.Game.{Game}
 use Rattle.rr_game.specs.History.GameBytes.{SpellsGame}
@@ -8,6 +8,7 @@ use Rattle.rr_images.specs.Codec.{Codec}
 use Rattle.rr_kit.specs.declared.kit.Kit.{Kit}
 use Rattle.rr_kit.specs.Kits.{SpellsKit}
 use Rattle.rr_reading.specs.Worlds.Spelling.{worlds}
+use Rattle.rr_roster.specs.Reading.{HasBank, NamesBank}
 use Rattle.rr_reading.specs.Worlds.World as words
 use Rattle.rr_reading.specs.Worlds.World.{WorldRules}
 use Rattle.rr_tables.specs.Records.Played.{ArePlayedTables}
@@ -36,9 +37,14 @@ pub record Shows (world : words.World) (written : List (List ℕ)) (bytes : List
   pub played : (kit : Kit) (commands : List Command) → SpellsKit (kit_texts world) kit → SpellCommands written commands
       → IsPlayOf kit commands game
 
+-- what a directory may say of the bank of this roster's text: nothing, if it names none; or what the bank begins with
+abbrev pub SaysBank : List ℕ → Option ℕ → Type 0
+SaysBank text None = NamesBank text → ⊥
+SaysBank text (Some bank) = HasBank text bank
+
 -- the rules of tables
 abbrev pub table_rules : WorldRules
-table_rules = record { takes = Takes; shows = Shows }
+table_rules = record { takes = Takes; shows = Shows; banks = SaysBank }
 
 -- files of tables: their records go by these rules
 abbrev pub table_files : Codec
