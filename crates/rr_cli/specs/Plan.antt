@@ -1,5 +1,5 @@
 -- What a plan says of the words.
-use Rattle.std.specs.Prelude.{◌≡◌, ◌≢◌, ◌⊎◌, codes, true, List, [], Option, Some, None, is_some}
+use Rattle.std.specs.Prelude.{◌≡◌, ◌≢◌, ◌⊎◌, codes, Bool, true, false, List, [], ◌∷◌, Option, Some, None, is_some}
 use Rattle.std.specs.Prelude.{string_bytes}
 use Rattle.clap.specs.Words.{Row, Text, fault_of, first_of, subcommand_of}
 use Rattle.rr_cli.specs.CommandLine.{moderate}
@@ -20,16 +20,38 @@ PlanAt (Serve file) (Some met) = (met.0 ≡ codes "serve")
 PlanAt (Check file) (Some met) = (met.0 ≡ codes "check")
     × (first_of (codes "file") met.1 ≡ Some (string_bytes file))
 
--- the plan is what `clap` matches in the words
-abbrev pub IsPlanOf : List Text → Plan → Type 0
-IsPlanOf words plan = PlanAt plan (subcommand_of moderate words)
-
--- `clap` finds no fault in the words, or one
+-- `clap` finds no fault in the words
 abbrev pub IsTaken : List Text → Type 0
 IsTaken words = fault_of moderate words ≡ []
 
-abbrev pub IsRefused : List Text → Type 0
-IsRefused words = fault_of moderate words ≢ []
+-- `clap` finds no fault in the words, and the plan is what it matches in them
+pub record IsPlanOf (words : List Text) (plan : Plan) : Type 0 where
+  pub taken : IsTaken words
+  pub matched : PlanAt plan (subcommand_of moderate words)
+
+-- `clap` finds a fault in the words
+pub record AreRefused (words : List Text) : Type 0 where
+  pub has_fault : fault_of moderate words ≢ []
+
+-- ---- the files that a plan names
+
+-- the path of the store's file
+abbrev pub file_of : Plan → Text
+file_of (Format file chart roster tiles board) = string_bytes file
+file_of (Serve file) = string_bytes file
+file_of (Check file) = string_bytes file
+
+-- `format` makes the file if it is absent
+abbrev pub makes_file : Plan → Bool
+makes_file (Format file chart roster tiles board) = true
+makes_file (Serve file) = false
+makes_file (Check file) = false
+
+-- the paths of the kit's files, in the order in which they are read; only `format` reads any
+abbrev pub kit_paths : Plan → List Text
+kit_paths (Format file chart roster tiles board) = string_bytes chart ∷ string_bytes roster ∷ string_bytes tiles ∷ string_bytes board ∷ []
+kit_paths (Serve file) = []
+kit_paths (Check file) = []
 
 -- ---- what a plan can be made of
 

@@ -6,8 +6,7 @@ ghost use Rattle.clap.specs.Words.{subcommand_rows_of, with_rule};
 ghost use Rattle.clap.specs.declared.builder.command.Command.TheViews.{out-Command as fields_of};
 ghost use Rattle.rr_cli.specs.CommandLine.{check_command, file_argument, file_option, format_command};
 ghost use Rattle.rr_cli.specs.CommandLine.{moderate, moderate_alone, serve_command};
-ghost use Rattle.rr_cli.specs.Plan.{HasKitFiles, IsGiven, IsPlanOf, IsPlannable, IsRefused};
-ghost use Rattle.rr_cli.specs.Plan.{IsTaken, PlanAt};
+ghost use Rattle.rr_cli.specs.Plan.{AreRefused, HasKitFiles, IsGiven, IsPlanOf, IsPlannable, PlanAt};
 
 use crate::{Fault, Plan};
 use clap::error::ErrorKind;
@@ -192,10 +191,9 @@ fn plan_of(alloc: Global, matches: &ArgMatches<'_>) -> Result<Plan, AllocError>
 /// [`Fault::Words`] where `clap` refuses the words or they ask for help, with the text that `clap`
 /// gives, and [`Fault::OutOfMemory`].
 pub fn plan<'a>(alloc: Global, words: &'a [&'a str]) -> Result<Plan, Fault>
-    ensures taken { IfOk result (λ _. IsTaken (texts words.entry.now)) }
-    ensures matched { IfOk result (IsPlanOf (texts words.entry.now)) }
+    ensures planned { IfOk result (IsPlanOf (texts words.entry.now)) }
     ensures refused { IfErr result (λ fault.
-        (fault ≡ Fault.OutOfMemory) ⊎ IsRefused (texts words.entry.now)) }
+        (fault ≡ Fault.OutOfMemory) ⊎ AreRefused (texts words.entry.now)) }
 {
     let command = program(alloc)?;
     match command.try_get_matches_from(words) {

@@ -1,7 +1,7 @@
 //! Calls without their contracts, so that what a test does costs its proof little. Those over any disk and any streams
 //! cost it less than those over certain ones.
-use rr_cli::{Ending, Plan, act, refuse};
-use rr_disk::{Disk, MemoryDisk};
+use rr_cli::{Ending, FileSystem, Plan, act, refuse, run};
+use rr_disk::{Disk, MemoryDisk, Start};
 use rr_moderator::{Fault, Moderator, Refused, Summary, Texts, format};
 use rr_serve::{CountingReader, CountingWriter, Input, Output};
 use std::alloc::Global;
@@ -62,6 +62,19 @@ pub(crate) fn carry_out<D: Disk + Drop, I: Input, O: Output>(
     writer: &mut O,
 ) -> (u8, D) {
     act(alloc, plan, texts, disk, reader, writer)
+}
+
+/// Runs the program with these words: the status with which it ends.
+pub(crate) fn run_words<S: Start, F: FileSystem<S>, I: Input, O: Output, E: Output>(
+    alloc: Global,
+    words: &[&str],
+    start: S,
+    files: &mut F,
+    reader: &mut I,
+    writer: &mut O,
+    errors: &mut E,
+) -> u8 {
+    run(alloc, words, start, files, reader, writer, errors)
 }
 
 pub(crate) fn refuse_to<O: Output>(fault: Fault, writer: &mut O) -> Ending {

@@ -1,12 +1,13 @@
-use Rattle.std.proofs.Common.{◌≡◌, ◌≢◌, ap, subst, inl, inr, true, List, [], ◌∷◌}
-use Rattle.clap.specs.Walk.{texts}
+use Rattle.std.proofs.Common.{◌≡◌, ◌≢◌, ap, subst, inl, inr, true, List, [], ◌∷◌, Option}
+use Rattle.clap.specs.Walk.{Row, texts}
 use Rattle.clap.specs.Kinds.{HasKind, IsAmong, Kinds}
 use Rattle.clap.specs.Words.{App, HasMatchesOf, Text, app_of, fault_of, is_simple, is_simple_and_free, kind_of, subcommand_of, subcommand_rows_of}
 use Rattle.clap.specs.declared.error.Error.{Error}
 use Rattle.clap.specs.declared.error.kind.ErrorKind.{ErrorKind}
 use Rattle.clap.specs.declared.parser.matches.ArgMatches.{ArgMatches}
 use Rattle.rr_cli.specs.CommandLine.{moderate}
-use Rattle.rr_cli.specs.Plan.{IsTaken}
+use Rattle.rr_cli.specs.Plan.{IsTaken, PlanAt}
+use Rattle.rr_cli.specs.declared.plans.Plan.{Plan}
 use Rattle.rr_cli.proofs.Presence.{some_fault}
 use Rattle.rr_cli.proofs.Taken.{taken}
 use Rattle.rr_cli.proofs.arguments.plan.Goals as goal
@@ -23,6 +24,9 @@ met_as : (command : App) (words : List Text) (m : ArgMatches) → command ≡ mo
 met_as command words m same h =
     subst (λ (a : App). subcommand_rows_of m ≡ subcommand_of a words) same (h (ap is_simple same)).1
 
+matched_as : (plan : Plan) (found met : Option (Text × List Row)) → found ≡ met → PlanAt plan found → PlanAt plan met
+matched_as plan found met same at = subst (λ (it : Option (Text × List Row)). PlanAt plan it) same at
+
 some_among : (k : ErrorKind) (kinds : Kinds) → IsAmong k kinds → kinds ≢ []
 some_among k [] among = absurd among
 some_among k (x ∷ xs) among = some_fault x xs
@@ -34,9 +38,13 @@ plan_of-requires c =
     let met = met_as (app_of c.in_ok-command.command) words c.in-Ok.matches c.in_ok-command.ensures c.in-Ok.ensures.matches in
     rw met (taken words is_taken)
 
-pub returns-in_ok-plan_of-in-Ok-clause-taken : goal.returns-in_ok-plan_of-in-Ok-clause-taken
-returns-in_ok-plan_of-in-Ok-clause-taken c =
-    taken_as (app_of c.in_ok-command.command) (texts c.args.words.now) c.in_ok-command.ensures c.in-Ok.ensures.kinds
+pub returns-in_ok-plan_of-in-Ok-clause-planned : goal.returns-in_ok-plan_of-in-Ok-clause-planned
+returns-in_ok-plan_of-in-Ok-clause-planned c =
+    let words = texts c.args.words.now in
+    let command = app_of c.in_ok-command.command in record {
+      taken = taken_as command words c.in_ok-command.ensures c.in-Ok.ensures.kinds;
+      matched = matched_as c.in_ok-plan_of-in-Ok.field-0 _ _ (met_as command words c.in-Ok.matches c.in_ok-command.ensures c.in-Ok.ensures.matches) c.in_ok-plan_of-in-Ok.ensures;
+    }
 
 pub returns-in-Err-clause-refused : goal.returns-in-Err-clause-refused
 returns-in-Err-clause-refused c =
@@ -44,5 +52,5 @@ returns-in-Err-clause-refused c =
     let fails = fails_as (app_of c.in_ok-command.command) words c.in-Err.error c.in_ok-command.ensures c.in-Err.ensures.kinds in
     elim fails [
       | inl memory ↦ inl (c.refusal.ensures memory)
-      | inr among ↦ inr (some_among (kind_of c.in-Err.error) _ among)
+      | inr among ↦ inr (record { has_fault = some_among (kind_of c.in-Err.error) _ among })
     ]
