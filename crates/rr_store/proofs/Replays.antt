@@ -22,7 +22,7 @@ use Rattle.rr_store.specs.Replayed.{IsReplayed, PlaysRecords, PlaysTables, count
 use Rattle.rr_store.specs.World.{World}
 use Rattle.rr_kit.specs.Kits.{KitTexts}
 use Rattle.rr_store.proofs.Trusting.{standing_true}
-use Rattle.rr_store.proofs.RecoveryLemmas.BaseLemmas.{each_snapshot, told_base}
+use Rattle.rr_store.proofs.RecoveryLemmas.BaseLemmas.{banked_world, each_snapshot, told_base}
 use Rattle.rr_store.proofs.RecoveryLemmas.PlaysLemmas.{counts_same, few_records}
 use Rattle.rr_store.proofs.RecoveryLemmas.Recovered.{PlaysThem, base_played, right_read, shows_them}
 
@@ -56,7 +56,7 @@ module _ (file : List ℕ) (has : Held) (holds : Holds file has) where
       → (plays + records < 2 ^ 64 → count ≡ plays + records) → HasTrueSnapshots has → IsReplayed has new.kit count
   replayed_from named old new near far plays records count same near_is far_is kit_is right plays_them had plays_so few of_records sum true =
       let there = told_base file has holds (world_of old) right.formed right.told in
-      let shows = shows_them file has holds old.kit (world_of old) right.right true right.formed right.told in
+      let shows = shows_them file has holds old.kit (world_of old) right.right right.banked true right.formed right.told in
       let played = base_played file has holds old right plays_them true in
       let few_near : length near ≤ LAST_SLOT = omega (arith, ap length near_is, few_in file has.root.half has.root.first has.near has.near_end holds.near_run) in
       let few_far : length far ≤ LAST_SLOT = omega (arith, ap length far_is, few_in file _ (has.root.first + length has.near) has.far has.far_end holds.far_run) in
@@ -68,7 +68,7 @@ module _ (file : List ℕ) (has : Held) (holds : Holds file has) where
       (record {
         base = world_of old;
         world = there.world;
-        is_base = record { spells = true there.world there.written; based = there.based };
+        is_base = record { spells = banked_world file has holds there.world (true there.world there.written) right.banked; based = there.based };
         of_tables = plays;
         tables = subst (λ (c : ℕ → List ℕ). PlaysTables old.kit c 0 (world_of old) plays) counts_are of_tables;
         now = world_of new;

@@ -40,7 +40,7 @@ abbrev pub RefusesFormatAs : Version → Type 0 → List ℕ → KitTexts → Fa
 RefusesFormatAs version Honest file texts fault =
     ((fault ≡ F.NotEmpty) × (Honest → 0 < length file))
     ⊎ RefusesAs version texts fault
-    ⊎ (IsRightKit texts × ((fault ≡ F.DeviceFailed) ⊎ (fault ≡ F.OutOfMemory)))
+    ⊎ (IsRightAs version texts × ((fault ≡ F.DeviceFailed) ⊎ (fault ≡ F.OutOfMemory)))
 
 -- of the newest version
 abbrev pub RefusesFormat : Type 0 → List ℕ → KitTexts → Fault → Type 0

@@ -48,11 +48,12 @@ pub struct Refused<D: Drop> {
 /// of a program that wrote fewer, is played once more, from its opening.
 ///
 /// # Errors
-/// `DeviceFailed`; `NotAStore` where the file has no roots of this version; `Damaged` with the least clause that it
-/// breaks: 1 to 5 of its bytes, 5 where kept words are no request's or a snapshot is no game, 6 where a text of the kit
-/// is wrong, 7 where a table keeps what wasn't played or a floor above its turns, and 8 where a record isn't a request
-/// that its table could take. Of a file with a snapshot that shows another game than its commands play, either of the
-/// last two may be told. Else `OutOfMemory` alone, and only where a root is taken.
+/// `DeviceFailed`; `NotAStore` if the file is too short, has no open root, or has one of another version than 1 and 2;
+/// `Damaged` with the least clause that it breaks: 1 to 5 of its bytes, 5 also if kept words are no request's, a snapshot
+/// is no game, or the directory says another bank than the roster; 6 if a text of the kit is wrong, or the roster of a
+/// directory of version 1 names a bank; 7 if a table keeps what wasn't played or a floor above its turns; and 8 if a
+/// record isn't a request that its table could take. Of a file with a snapshot that shows another game than its commands
+/// play, either of the last two may be returned. Else `OutOfMemory` alone, and only if a root is taken.
 pub fn open<D: Disk + Drop>(alloc: Global, disk: D) -> Result<Store<D>, Refused<D>>
     // The store holds the world for which the file stands; it stands for one, unless a snapshot shows another game than
     // its commands play. Else the file breaks a clause, or the device failed or memory was wanted. Whatever is answered,

@@ -8,7 +8,7 @@ use Rattle.rr_log.specs.Opening.Opened.{HasDamagedRecord}
 use Rattle.rr_reading.specs.Held.{Held, chains_of}
 use Rattle.rr_tables.specs.Records.Played.{ArePlayedTables}
 use Rattle.rr_roster.specs.Reading.{HasBank, NamesBank}
-use Rattle.rr_tables.specs.Records.Taking.{SaysBank, Takes, table_rules}
+use Rattle.rr_tables.specs.Records.Taking.{SaysBank, Shows, Takes, table_rules}
 use Rattle.rr_tables.specs.Records.Words.{IsInWords, kit_texts}
 use Rattle.rr_tables.specs.Records.World.{World}
 use Rattle.rr_reading.specs.Worlds.Spelling.{Spells}
@@ -38,12 +38,15 @@ IsWrongFor None texts = IsWrongKit texts ⊎ NamesBank texts.roster
 IsWrongFor (Some bank) texts = IsWrongKit texts
 
 -- what is asked of a snapshot before it is trusted: nothing; or that it is a game that has played as many commands as it
--- tells
+-- tells. And what is trusted: that it shows the game that the commands before it play.
 abbrev pub any_bytes : WorldRules
 any_bytes = record { takes = Takes; shows = λ world written bytes. Unit {0}; banks = λ text bank. Unit {0} }
 
 abbrev pub any_game : WorldRules
 any_game = record { takes = Takes; shows = λ world written bytes. SpellsOneGame bytes (length written); banks = SaysNumber }
+
+abbrev pub true_game : WorldRules
+true_game = record { takes = Takes; shows = Shows; banks = SaysNumber }
 
 -- the chains of the root spell a world, whose tables by their commands are these
 pub record IsBase (has : Held) (base : World) (world : words.World) : Type 0 where
@@ -77,13 +80,13 @@ pub record IsWritten (has : Held) (world : words.World) : Type 0 where
 abbrev pub HasBadWords : Held → Type 0
 HasBadWords has = (world : words.World) → IsWorded has world → ⊥
 
--- or some snapshot is no game that has played as many commands
+-- or some snapshot is no game that has played as many commands, or the directory says another bank than the roster
 abbrev pub HasBadForm : Held → Type 0
 HasBadForm has = (world : words.World) → IsWritten has world → ⊥
 
 -- each snapshot shows the game that the commands before it play
 abbrev pub HasTrueSnapshots : Held → Type 0
-HasTrueSnapshots has = (world : words.World) → IsWritten has world → SpellBy table_rules has world
+HasTrueSnapshots has = (world : words.World) → IsWritten has world → SpellBy true_game has world
 
 -- words and snapshots are of their form, and the texts spell no kit
 pub record HasWrongKit (has : Held) : Type 0 where
