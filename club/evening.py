@@ -223,7 +223,7 @@ class Evening:
             going, target = turns[target], target - 1
         if target < 0:
             raise Mistake("Nothing was played yet.")
-        print("This goes:", *going, sep="\n  ")
+        print("This goes:", *(it[:SHOWN_LENGTH] for it in going), sep="\n  ")
         if not sys.stdin.isatty() or input("Take it back? [y/n] ").strip() not in ("y", "yes"):
             raise Mistake("Nothing was taken back.")
         self.take(["back", str(target)])

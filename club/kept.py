@@ -1,16 +1,12 @@
 """What a file keeps of its tables: the kit, and the commands of each table, from which follows what lies on its board."""
 import re
-import sys
 from collections.abc import Sequence
 from dataclasses import dataclass
 from itertools import zip_longest
-from pathlib import Path
 
 from club.kit import TEXTS, Kit, read_kit
 from club.layout import Lay, Layout, Token
-
-sys.path.append(str(Path(__file__).resolve().parent.parent / "tools"))
-from store_file import read
+from club.store_file import read
 
 # The B&O's par is set by the buyer of the B&O private and by nobody else, and the purchase ends no turn before it.
 PRIVATE_PAR = re.compile(r"par \S+ B&O ")
@@ -41,15 +37,20 @@ class Kept:
 def read_kept(data: bytes) -> Kept:
     """What a file's bytes keep. They must be of one moment: read them between two replies of the program."""
     store = read(data)
-    tables: dict[str, list[str]] = {it.name: list(it.kept) for it in store.tables}
-    for record in store.near + store.far:
-        name, verb, *words = record.split(" ")
-        commands = tables.setdefault(name, [])
-        if verb == "back":
-            commands[:] = sum(turns_of(commands)[:int(words[0]) + 1], [])
-        elif verb != "forget":
-            commands.append(" ".join([verb, *words]))
+    tables = {name: left_of(commands) for name, commands in store.accepted().items()}
     return Kept(read_kit(dict(zip(TEXTS, store.texts))), tables, store.texts)
+
+
+def left_of(commands: Sequence[str]) -> list[str]:
+    """The commands that each `back` among them left in play, without `back` and `forget`."""
+    left: list[str] = []
+    for command in commands:
+        verb, _, turn = command.partition(" ")
+        if verb == "back":
+            left = sum(turns_of(left)[:int(turn) + 1], [])
+        elif verb != "forget":
+            left.append(command)
+    return left
 
 
 def turns_of(commands: Sequence[str]) -> list[list[str]]:

@@ -219,14 +219,15 @@ Chart = tuple[tuple[Cell | None, ...], ...]
 
 @dataclass(frozen=True)
 class Roster:
-    """The numbers of the roster by the names of privates, corporations and kinds of train. Faces, incomes and prices are dollars."""
+    """The numbers of the roster by their names, all but tokens and counts in dollars. `trade` is the
+    price of a diesel for which another train is handed in, and `bank` what the bank begins with."""
     faces: dict[str, int]
     incomes: dict[str, int]
     tokens: dict[str, int]
     prices: dict[str, int]
     counts: dict[str, int]
-    # The price of a diesel for which another train is handed in.
     trade: int
+    bank: int
 
 
 @dataclass(frozen=True)
@@ -272,7 +273,8 @@ def read_roster(data: bytes) -> Roster:
     try:
         document = tomllib.loads(text_of("roster", data))
         columns = [{it["name"]: it[number] for it in document[key]} for key, number in COLUMNS]
-        return Roster(*columns, next(it["trade"] for it in document["train"] if it["name"] == "D"))
+        trade = next(it["trade"] for it in document["train"] if it["name"] == "D")
+        return Roster(*columns, trade, document.get("bank", 12_000))
     except tomllib.TOMLDecodeError as why:
         raise KitError("roster", 0, f"it isn't TOML: {why}") from None
     except (KeyError, TypeError, StopIteration) as why:

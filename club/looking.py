@@ -2,7 +2,6 @@
 import argparse
 import os
 import shutil
-import subprocess
 import tempfile
 from collections.abc import Callable, Iterator, Sequence
 from contextlib import contextmanager
@@ -10,10 +9,10 @@ from dataclasses import replace
 from pathlib import Path
 
 from club.books import Books, read_books
-from club.client import Program, Refused, take_lock
+from club.client import Program, take_lock
 from club.kept import Kept, read_kept, turns_of
-from club.kit import TEXTS
 from club.refusals import status_of
+from club.store_file import Table, written
 from club.views import Observer, View
 
 # Files that are only looked at stand in memory, if there is such a folder.
@@ -86,17 +85,13 @@ def view_before(program: Program, kept: Kept, table: str, stamp: int) -> View:
 
 @contextmanager
 def played_anew(named: str, kept: Kept, table: str) -> Iterator[Program]:
-    """Serves a new file with the kit of another one, on which the commands were played that a table keeps."""
+    """Serves a new file with the commands of a table, which the program plays as it opens."""
+    count, bank = len(kept.tables[table]), kept.kit.roster.bank
     with tempfile.TemporaryDirectory(dir=MEMORY) as folder:
-        for text, data in zip(TEXTS, kept.texts):
-            Path(folder, text).write_bytes(data)
-        options = [word for text in TEXTS for word in (f"--{text}", f"{folder}/{text}")]
-        subprocess.run([named, "format", f"{folder}/anew", *options], check=True, stdout=subprocess.DEVNULL)
-        program = Program(Path(folder, "anew"), named)
+        file, anew = Path(folder, "anew"), Table(table, count, 0, kept.tables[table])
+        file.write_bytes(written(kept.texts, [anew], count + 1, bank=bank))
+        program = Program(file, named)
         try:
-            for stamp, command in enumerate(kept.tables[table]):
-                if (reply := program.line(f"{stamp} {table} {command}")).number:
-                    raise Refused(reply)
             yield program
         finally:
             program.stop()

@@ -59,7 +59,7 @@ class Observer:
 
     def dollars(self, query: str, *words: str) -> str:
         """The money that a query answers with, if there is any."""
-        return "".join(f"${it}" for it in self.ask(query, *words)[:1])
+        return "".join(f"${it}" for it in self.ask(query, *words)[:1]).replace("$-", "−$")
 
     def view(self) -> View:
         """What is shown."""

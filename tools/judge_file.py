@@ -5,12 +5,15 @@ no end, and the take-back of its turns: each command but the opening is one. Of 
 game's, by game_bytes.py, and which commands play that game where it is told. Where a file asks for more, its answer is None.
 """
 import re
+import tomllib
 from dataclasses import dataclass, field
 
+import club_path
+from club.kit import read_roster
+from club.store_file import FIRST_DATA, MOST_SLOTS, PAGE, SLOTS, USED, VERSIONS, kit_at
+from club.store_file import number_at, record_at, records_from, root_at, slots_for
 import game_bytes
 from game_bytes import is_player
-from store_file import FIRST_DATA, MOST_SLOTS, PAGE, SLOTS, USED, VERSIONS, bank_of, kit_at, names_bank, number_at, record_at
-from store_file import records_from, root_at, slots_for
 
 NOT_A_STORE = "no 64 not a store"
 LAST_NUMBER, LAST_STAMP = 2**63 - 1, 4_000_000_000
@@ -234,9 +237,9 @@ def tables_of(data, root, texts, games):
     if [text for text, _ in found[:4]] != texts:
         raise NotKnown
     # A directory of version 2 says the roster's bank; for one of version 1 a roster that names a bank is wrong.
-    if bank is not None and bank != bank_of(texts[1]):
+    if bank is not None and bank != read_roster(texts[1]).bank:
         raise Damaged(5)
-    if bank is None and names_bank(texts[1]):
+    if bank is None and "bank" in tomllib.loads(texts[1].decode()):
         raise Damaged(6)
     # Whatever game a snapshot shows, no table keeps other words than a command's.
     if not all(form_of(it) in ("open", "play") for words in kept for it in words):

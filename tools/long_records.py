@@ -1,7 +1,8 @@
 """Lines whose records take one slot to eight: runs without trains, whose certificates deny one link after another."""
 from pathlib import Path
 
-from store_file import PAGE
+import club_path
+from club.store_file import PAGE
 
 ROOT = Path(__file__).resolve().parent.parent
 # The table of a recorded game in which PRR runs without trains: so many commands and turns come before that run.

@@ -24,7 +24,7 @@ TEXTS = ("chart.txt", "roster.toml", "tiles.txt", "board.txt")
 LARGE_BOARD = ROOT / "games/operating_rounds_of_four/board.txt"
 MEMORY = Path("/dev/shm")
 # No answer takes so long, also where others keep the machine busy.
-SECONDS = 30
+SECONDS = 120
 ESCAPES = re.compile(r"\x1b\[[0-9;?]*[a-zA-Z]|\r")
 
 

@@ -22,6 +22,9 @@ from club.layout import hexes_of, links_of
 from club.evening import Evening, Mistake
 from club.kept import read_kept
 
+sys.path.append(str(ROOT / "tools"))
+import long_records
+
 PLAY = str(ROOT / "club/play")
 LARGE = "operating_rounds_of_four"
 # Two players buy the privates, one floats the PRR, and it gets a train and ends its turn: the evening of docs/PLAYING.md.
@@ -169,6 +172,17 @@ class PipeTest(EveningTest):
             log.write("2\t2 g1 bu")  # it broke off before it was sent
         self.assertEqual(self.play(store, "buy bob\n").returncode, 0)
         self.assertEqual([it[-1] for it in self.log(store)], ["ok g1 1", "ok g1 2", "ok g1 2", "not taken", "2 g1 bu", "ok g1 3"])
+
+    def test_the_longest_line(self) -> None:
+        store = self.store()
+        self.play(store, "g1 open a b\n")
+        longest = "1 g1 run PRR best " + 2665 * "s1000000000 " + "x1"
+        self.assertEqual(len(longest), 32_000)
+        shown = self.play(store, longest + "\n").stdout
+        self.assertIn(" no 42 wrong step\n  a is due (auction): ", shown)
+        shown = self.play(store, longest + "0\n").stdout
+        self.assertIn(" no 67 line too long\n", shown)
+        self.assertIn("  The line has more than 32,000 bytes.\n", shown)
 
     def test_what_asks_a_person_does_nothing_without_one(self) -> None:
         store = self.store()
@@ -333,6 +347,23 @@ class InsideTest(EveningTest):
             made.program.line(line)
         self.assertGreater(found, 50)
         self.assertLess(several, found / 5)
+
+    def test_records_of_one_slot_to_eight(self) -> None:
+        """Runs with proof trees of up to 4,096 words are taken, logged whole, and shown in short."""
+        board = (ROOT / "kit/board.txt").read_text() + long_records.board()
+        (self.folder / "board.txt").write_text(board)
+        store = self.store(self.folder)
+        made, runs = self.evening(store), [long_records.run_of(slots) for slots in range(1, 9)]
+        self.assertEqual(len(runs[-1].partition(" best ")[2].split(" ")), 4096)
+        back = f"back {long_records.TURNS}"
+        first, *others = long_records.beginning()
+        again = [words for run in runs for words in (run, back)][:-1]
+        with contextlib.redirect_stdout(io.StringIO()) as shown:
+            self.assertTrue(made.take_all([f"g5 {first}", *others, *again]))
+            self.assertFalse(made.take_all(["undo"]))
+        self.assertEqual(self.kept(store, "g5")[-1], runs[-1])
+        self.assertEqual([it[1].split(" ", 2)[2] for it in self.log(store)][-15::2], runs)
+        self.assertIn(f"This goes:\n  {runs[-1][:100]}\n", shown.getvalue())
 
     def test_an_evening_goes_on_however_often_the_program_is_killed(self) -> None:
         store = self.store(ROOT / "games" / LARGE)

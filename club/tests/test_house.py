@@ -16,7 +16,9 @@ def is_python(file: Path) -> bool:
 
 
 def sources() -> list[Path]:
-    return sorted(it for it in (ROOT / "club").iterdir() if is_python(it))
+    """The Python files of the desk, in all its folders but that of the tests."""
+    files = (it for it in (ROOT / "club").rglob("*") if ROOT / "club/tests" not in it.parents)
+    return sorted(filter(is_python, files))
 
 
 def bare_functions(text: str) -> Iterator[str]:
@@ -43,12 +45,13 @@ class HouseTest(unittest.TestCase):
         self.assertEqual(list(bare_functions("class A:\n  def f(self, a: int, *, b: int = 1) -> None: pass")), [])
 
     def test_the_desk_stays_small(self) -> None:
-        reader = ROOT / "tools/store_file.py"  # the desk's reader of files counts as its own
-        self.assertLessEqual(sum(len(it.read_text().splitlines()) for it in [*sources(), reader]), MOST_LINES)
+        """Each line of `sources` counts, comments and empty ones as well; no line of a test does."""
+        self.assertIn(ROOT / "club/store_file.py", sources())
+        self.assertLessEqual(sum(len(it.read_text().splitlines()) for it in sources()), MOST_LINES)
 
     def test_nothing_but_the_standard_library_is_imported(self) -> None:
         import sys
-        known = {*sys.stdlib_module_names, "club", "store_file"}
+        known = {*sys.stdlib_module_names, "club"}
         for file in sources():
             for node in ast.walk(ast.parse(file.read_text())):
                 names = [it.name for it in node.names] if isinstance(node, ast.Import) else (

@@ -14,8 +14,10 @@ from club.kept import Kept, read_kept, turns_of
 from club.kit import CORPORATIONS
 from club.layout import Lay, Token
 
+from club.store_file import read
+
+sys.path.append(str(ROOT / "tools"))
 import game_bytes
-import store_file
 
 
 class Board:
@@ -68,7 +70,7 @@ class KeptTest(StoreTest):
                     taken.setdefault(table, []).append(words)
                     dues[table, len(taken[table])] = program.ask(f"due {table}")[0]
             data = store.read_bytes()
-            kept, tables = read_kept(data), store_file.read(data)
+            kept, tables = read_kept(data), read(data)
             self.assertEqual(list(kept.tables), list(taken))
             for table, commands in taken.items():
                 self.assertEqual(len(kept.tables[table]), len(commands))

@@ -248,6 +248,21 @@ class StructureTest(PagesTest):
         self.assertEqual(view_of(program, read_kept(store.read_bytes()), "tiles").choices, ["drop PRR KIND"])
 
 
+class BankTest(PagesTest):
+    def test_a_bank_that_the_roster_names(self) -> None:
+        """By the recorded replies: four players get 600 each, and at last the bank owes 5."""
+        store, program = self.played("bank_of_2400")
+        kept = read_kept(store.read_bytes())
+        for stamp, has, owes in ((1, 0, 0), (2, 20, 0), (6, 15, 0), (18, 0, 0)):
+            view = view_before(program, kept, "g1", stamp)
+            said = f"The bank has ${has}, and owes ${owes}."
+            self.assertIn(said, html_of(view, None))
+            self.assertIn(said, text_of(view, None))
+        program.stop()
+        said = "21 turns have ended. It's phase 2. The bank has −$5, and owes $5."
+        self.assertIn(said, self.run_desk("mail", "--file", store).stdout)
+
+
 class MarksTest(PagesTest):
     def test_what_a_turn_changed_is_marked(self) -> None:
         """Turn 27 of `tiles_given_back` begins with the stamp 46: PRR lays 14 on B, buys the SV from a for 10, and holds a revenue of 0.
@@ -275,11 +290,6 @@ class MarksTest(PagesTest):
 
 
 class CommandsTest(PagesTest):
-    def run_desk(self, name: str, *words: str | Path) -> subprocess.CompletedProcess:
-        """Runs a command of the desk."""
-        call = [str(ROOT / "club" / name), *map(str, words), "--program", self.program]
-        return subprocess.run(call, capture_output=True, text=True, check=False)
-
     def test_pages_of_all_tables_or_of_some(self) -> None:
         store, program = self.played("two_tables")
         program.stop()
