@@ -54,7 +54,7 @@ fn lend(alloc: Global, words: &[String]) -> Result<Vec<&str>, AllocError> {
 }
 
 /// Runs the program over the files of the system and the standard streams. It names the start of its file, since it has
-/// to name one: `run` is proved for each, and no code can tell them apart.
+/// to name one: `run` is proved for each, and no code can tell them apart. The file that `run` returns is closed.
 fn run_words(rt: &HostRuntime, words: &[&str]) -> u8 {
     let mut reader = match BufReader::new(rt.alloc(), rt.reader()) {
         Ok(reader) => CountingReader::new(reader),
@@ -64,7 +64,7 @@ fn run_words(rt: &HostRuntime, words: &[&str]) -> u8 {
     let mut output = CountingWriter::new(writer(rt));
     let mut errors = CountingWriter::new(writer(&stderr));
     let mut files = HostFiles::new(rt);
-    run(
+    let ended = run(
         rt.alloc(),
         words,
         Unknown,
@@ -72,7 +72,8 @@ fn run_words(rt: &HostRuntime, words: &[&str]) -> u8 {
         &mut reader,
         &mut output,
         &mut errors,
-    )
+    );
+    ended.status
 }
 
 /// Ends with a refusal on standard output.

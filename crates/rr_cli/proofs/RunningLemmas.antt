@@ -9,7 +9,8 @@ use Rattle.rr_serve.specs.declared.faults.Fault as serve
 use Rattle.rr_serve.specs.Streams.{InputState, OutputState, IsCutShort, IsSent}
 use Rattle.rr_cli.specs.Acting.{Acts}
 use Rattle.rr_cli.specs.Calls.{PathEvent, was_not_opened, was_opened}
-use Rattle.rr_cli.specs.Running.{ActsOn, EndsRefused, TellsWhy}
+use Rattle.rr_cli.specs.Running.{ActsOn, EndsRefused, TellsText}
+use Rattle.rr_cli.specs.declared.ending.Ended.{Ended}
 use Rattle.rr_cli.specs.declared.fault.Fault.{Fault}
 use Rattle.rr_cli.specs.declared.plans.Plan.{Plan}
 use Rattle.rr_cli.specs.declared.fault.Fault.TheVariants.{OutOfMemory, Words}
@@ -23,9 +24,8 @@ pub acts_with : {D : Type 0} (seen : Ghosts D) (plan : Plan) (lent texts : KitTe
     (reader_old reader_new : InputState) (writer_old writer_new : OutputState) (status : ℕ) → lent ≡ texts
     → Acts seen.Honest seen.Works seen.state seen.past seen.fault_count seen.write_count seen.sync_count plan lent opened left
     reader_old reader_new writer_old writer_new status
-    → ActsOn seen plan texts opened reader_old reader_new writer_old writer_new status
+    → ActsOn seen plan texts opened left reader_old reader_new writer_old writer_new status
 acts_with seen plan lent texts opened left reader_old reader_new writer_old writer_new status same acts = record {
-  left = left;
   acts = subst (λ (it : KitTexts). Acts seen.Honest seen.Works seen.state seen.past seen.fault_count seen.write_count seen.sync_count plan it
       opened left reader_old reader_new writer_old writer_new status) same acts;
 }
@@ -40,11 +40,11 @@ pub not_opened_as : (before after : List PathEvent) (path named : List ℕ) (mak
 not_opened_as before after path named make makes p q r = cc
 
 -- the bytes of a text were sent whole, or they were cut short
-pub tells_why : (result : Result (Unit {0}) serve.Fault) (bytes text : Text) (before after : OutputState) → bytes ≡ text
-    → OnOk result (IsSent before bytes after) → OnErr result (IsCutShort before bytes after) → TellsWhy text before after
-tells_why (Ok _) bytes text before after same whole cut =
+pub tells_text : (result : Result (Unit {0}) serve.Fault) (bytes text : Text) (before after : OutputState) → bytes ≡ text
+    → OnOk result (IsSent before bytes after) → OnErr result (IsCutShort before bytes after) → TellsText text before after
+tells_text (Ok _) bytes text before after same whole cut =
     record { told = inl (subst (λ (it : Text). IsSent before it after) same whole) }
-tells_why (Err _) bytes text before after same whole cut =
+tells_text (Err _) bytes text before after same whole cut =
     record { told = inr (subst (λ (it : Text). IsCutShort before it after) same cut) }
 
 abbrev pub wants_memory : Fault → Bool
@@ -57,7 +57,7 @@ words_refused fault Refused other (inl memory) = absurd (true≢false (sym (ap w
 words_refused fault Refused other (inr refused) = refused
 
 -- a refusal told of one fault is told of another that it is
-pub ends_as : (fault told : moderator.Fault) (before after : OutputState) (status : ℕ) → fault ≡ told
-    → EndsRefused fault before after status → EndsRefused told before after status
-ends_as fault told before after status same ends =
-    subst (λ (it : moderator.Fault). EndsRefused it before after status) same ends
+pub ends_as : {D : Type 0} (fault told : moderator.Fault) (before after : OutputState) (ended : Ended D) → fault ≡ told
+    → EndsRefused fault before after ended → EndsRefused told before after ended
+ends_as fault told before after ended same ends =
+    subst (λ (it : moderator.Fault). EndsRefused it before after ended) same ends

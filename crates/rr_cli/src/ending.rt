@@ -1,4 +1,4 @@
-//! How a run of the program ends.
+//! How a run of the program ends, and what it leaves.
 ghost use Rattle.std.specs.Prelude.{◌≡◌};
 ghost use Rattle.rr_cli.specs.Ending.{status_of};
 
@@ -13,6 +13,13 @@ pub enum Ending {
     WordsRefused,
     /// It ended with this fault.
     Faulted(Fault),
+}
+
+/// With which exit status a run of the program ended, and the file as it was then, if one was opened.
+#[derive(Drop)]
+pub struct Ended<D: Drop> {
+    pub status: u8,
+    pub left: Option<D>,
 }
 
 /// The exit status of a run that ends so: 0 where it did its work, 2 where the words were refused,

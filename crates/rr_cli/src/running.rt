@@ -1,24 +1,25 @@
 //! The program from its words on.
-ghost use Rattle.std.specs.Prelude.{◌≡◌, ◌⊎◌, IfErr, IfOk};
+ghost use Rattle.std.specs.Prelude.{◌≡◌, ◌⊎◌, None, IfErr, IfOk};
 ghost use Rattle.clap.specs.Walk.{texts};
 ghost use Rattle.rr_moderator.specs.declared.fault.Fault.TheVariants.{OutOfMemory, StreamFailed};
 ghost use Rattle.rr_cli.specs.Ending.{status_of};
 ghost use Rattle.rr_cli.specs.Plan.{kit_paths};
-ghost use Rattle.rr_cli.specs.Running.{ActsOn, ActsOnFile, CarriesOut, EndsRefused, FailsToRead, Runs, TellsWhy, after_kit, texts_in};
+ghost use Rattle.rr_cli.specs.Running.{ActsOn, ActsOnFile, CarriesOut, EndsRefused, FailsToRead, Runs, TellsText, after_kit, texts_in};
 
 use crate::files::FileSystem;
-use crate::{Ending, Fault, Plan, act, plan, refuse, status};
+use crate::{Ended, Ending, Fault, Plan, act, plan, refuse, status};
 use rr_disk::{Disk, Start};
 use rr_moderator::Texts;
 use rr_serve::{Input, Output, send};
 use std::alloc::Global;
 
-/// Does what the words after the program's name ask, and returns the status with which the program ends.
+/// Does what the words after the program's name ask, and returns the status with which the program ends, and the file as
+/// it is then.
 ///
-/// Why words are refused, and help, is written to `errors`, all else to `writer`. The kit's files are read first, in the
-/// order chart, roster, tiles, board, up to one that can't be read. Then FILE is opened, and `format` makes it if it is
-/// absent. Only `serve` reads `reader`. What the file held as it was opened is said by the type `S`, which no code can
-/// see. So this is proved for every content of the file.
+/// If the words are refused, or ask for help, some text is written to `errors`; all else is written to `writer`. The
+/// kit's files are read first, in the order chart, roster, tiles, board, up to one that can't be read. Then FILE is
+/// opened, and `format` makes it if it is absent. Only `serve` reads `reader`. What the file held as it was opened is
+/// said by the type `S`, which no code can see. So this is proved for every content of the file.
 pub fn run<S: Start, F: FileSystem<S>, I: Input, O: Output, E: Output>(
     alloc: Global,
     words: &[&str],
@@ -27,7 +28,7 @@ pub fn run<S: Start, F: FileSystem<S>, I: Input, O: Output, E: Output>(
     reader: &mut I,
     writer: &mut O,
     errors: &mut E,
-) -> u8
+) -> Ended<F::Opened>
     ensures { Runs F.Opened.Disk S.held (texts words.entry.now) (F.calls files.old) (F.calls files.new) (I.state reader.old) (I.state reader.new)
         (O.state writer.old) (O.state writer.new) (E.state errors.old) (E.state errors.new) result }
 {
@@ -38,20 +39,28 @@ pub fn run<S: Start, F: FileSystem<S>, I: Input, O: Output, E: Output>(
     }
 }
 
-/// Writes the refusal, and returns the status with which the program ends.
-fn end<O: Output>(fault: rr_moderator::Fault, writer: &mut O) -> u8
+/// Writes the refusal, and ends the program, which has opened no file.
+fn end<D: Drop, O: Output>(fault: rr_moderator::Fault, writer: &mut O) -> Ended<D>
     ensures { EndsRefused fault (O.state writer.old) (O.state writer.new) result }
 {
-    status(refuse(fault, writer))
+    Ended {
+        status: status(refuse(fault, writer)),
+        left: None,
+    }
 }
 
-/// Writes why the words are refused. The status is the same whether or not that could be written.
-fn refuse_words<E: Output>(text: &str, errors: &mut E) -> u8
-    ensures status { result ≡ status_of Ending.WordsRefused }
-    ensures told { TellsWhy text.now (E.state errors.old) (E.state errors.new) }
+/// Writes this text, and ends the program as its words are refused. The status is the same whether or not the text could
+/// be written.
+fn refuse_words<D: Drop, E: Output>(text: &str, errors: &mut E) -> Ended<D>
+    ensures status { result.status ≡ status_of Ending.WordsRefused }
+    ensures left { result.left ≡ None }
+    ensures told { TellsText text.now (E.state errors.old) (E.state errors.new) }
 {
     let _ = send(errors, text.as_bytes());
-    status(Ending::WordsRefused)
+    Ended {
+        status: status(Ending::WordsRefused),
+        left: None,
+    }
 }
 
 /// The texts of a kit, read from its files.
@@ -71,7 +80,7 @@ fn carry_out<S: Start, F: FileSystem<S>, I: Input, O: Output>(
     files: &mut F,
     reader: &mut I,
     writer: &mut O,
-) -> u8
+) -> Ended<F::Opened>
     ensures { CarriesOut F.Opened.Disk S.held plan.now (F.calls files.old) (F.calls files.new) (I.state reader.old) (I.state reader.new)
         (O.state writer.old) (O.state writer.new) result }
 {
@@ -90,17 +99,23 @@ fn act_on_file<S: Start, F: FileSystem<S>, I: Input, O: Output>(
     files: &mut F,
     reader: &mut I,
     writer: &mut O,
-) -> u8
+) -> Ended<F::Opened>
     ensures { ActsOnFile F.Opened.Disk S.held plan.now (texts_in kit.now) (F.calls files.old) (F.calls files.new)
         (I.state reader.old) (I.state reader.new) (O.state writer.old) (O.state writer.new) result }
 {
     match files.open(plan.file(), plan.makes_file(), start) {
-        Ok(disk) => act_with(alloc, plan, kit, disk, reader, writer),
+        Ok(disk) => {
+            let (status, left) = act_with(alloc, plan, kit, disk, reader, writer);
+            Ended {
+                status,
+                left: Some(left),
+            }
+        }
         Err(fault) => end(fault, writer),
     }
 }
 
-/// Does what the plan asks with this kit, and returns the status with which the program ends.
+/// Does what the plan asks with this kit, and returns the status with which the program ends, and the disk.
 fn act_with<D: Disk + Drop, I: Input, O: Output>(
     alloc: Global,
     plan: &Plan,
@@ -108,9 +123,9 @@ fn act_with<D: Disk + Drop, I: Input, O: Output>(
     disk: D,
     reader: &mut I,
     writer: &mut O,
-) -> u8
-    ensures { ActsOn D.Disk plan.now (texts_in kit.now) disk
-        (I.state reader.old) (I.state reader.new) (O.state writer.old) (O.state writer.new) result }
+) -> (u8, D)
+    ensures { ActsOn D.Disk plan.now (texts_in kit.now) disk result.1
+        (I.state reader.old) (I.state reader.new) (O.state writer.old) (O.state writer.new) result.0 }
 {
     let texts = Texts {
         chart: kit.chart.as_slice(),
@@ -118,8 +133,7 @@ fn act_with<D: Disk + Drop, I: Input, O: Output>(
         tiles: kit.tiles.as_slice(),
         board: kit.board.as_slice(),
     };
-    let (status, _left) = act(alloc, plan, texts, disk, reader, writer);
-    status
+    act(alloc, plan, texts, disk, reader, writer)
 }
 
 /// Reads the files of the plan's kit. Plans that need no kit have an empty one.

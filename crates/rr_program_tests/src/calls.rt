@@ -1,6 +1,6 @@
 //! Calls without their contracts, so that what a test does costs its proof little. Those over any disk and any streams
 //! cost it less than those over certain ones.
-use rr_cli::{Ending, FileSystem, Plan, act, refuse, run};
+use rr_cli::{Ended, Ending, FileSystem, Plan, act, refuse, run};
 use rr_disk::{Disk, MemoryDisk, Start};
 use rr_moderator::{Fault, Moderator, Refused, Summary, Texts, format};
 use rr_serve::{CountingReader, CountingWriter, Input, Output};
@@ -64,7 +64,7 @@ pub(crate) fn carry_out<D: Disk + Drop, I: Input, O: Output>(
     act(alloc, plan, texts, disk, reader, writer)
 }
 
-/// Runs the program with these words: the status with which it ends.
+/// Runs the program with these words: the status with which it ends, and the file that it leaves.
 pub(crate) fn run_words<S: Start, F: FileSystem<S>, I: Input, O: Output, E: Output>(
     alloc: Global,
     words: &[&str],
@@ -73,7 +73,7 @@ pub(crate) fn run_words<S: Start, F: FileSystem<S>, I: Input, O: Output, E: Outp
     reader: &mut I,
     writer: &mut O,
     errors: &mut E,
-) -> u8 {
+) -> Ended<F::Opened> {
     run(alloc, words, start, files, reader, writer, errors)
 }
 

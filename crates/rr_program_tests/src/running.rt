@@ -127,7 +127,7 @@ fn ends_so<F: FileSystem<Unknown>>(
     let mut reader = reader_of(run.input);
     let mut writer = empty_writer(alloc);
     let mut errors = empty_writer(alloc);
-    let status = run_words(
+    let ended = run_words(
         alloc,
         words,
         Unknown,
@@ -137,7 +137,7 @@ fn ends_so<F: FileSystem<Unknown>>(
         &mut errors,
     );
     let is_right = [
-        status == run.status,
+        ended.status == run.status,
         has_written(writer, run.told),
         has_written(errors, run.why),
     ];
