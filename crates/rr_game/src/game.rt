@@ -81,6 +81,9 @@ impl Game {
         ensures verdict { (accepted : List Line) → IsGameOf kit.now accepted self.now → MatchResult result
             (λ _. IsVerdict (command_judgement kit.now (players_of accepted) (play kit.now accepted) command.now) None)
             (λ fault. MayFind (command_judgement kit.now (players_of accepted) (play kit.now accepted) command.now) Refusal.OutOfMemory fault) }
+        ensures judged { (state : GameState) → IsStandingOf state self.now.standing → MatchResult result
+            (λ _. IsVerdict (command_judgement kit.now self.now.players state command.now) None)
+            (λ fault. MayFind (command_judgement kit.now self.now.players state command.now) Refusal.OutOfMemory fault) }
         ensures game { IfOk result (λ game. (accepted : List Line) → IsGameOf kit.now accepted self.now →
             IsGameOf kit.now (accepted ++ command.now ∷ []) game) }
         ensures played { IfOk result (λ game. game.played ≡ self.now.played + 1) }
@@ -123,6 +126,9 @@ impl Game {
         ensures verdict { (accepted : List Line) → IsGameOf kit.now accepted self.now → MatchResult result
             (λ _. IsVerdict (command_judgement kit.now (players_of accepted) (play kit.now accepted) command.now) None)
             (λ fault. MayFind (command_judgement kit.now (players_of accepted) (play kit.now accepted) command.now) Refusal.OutOfMemory fault) }
+        ensures judged { (state : GameState) → IsStandingOf state self.now.standing → MatchResult result
+            (λ _. IsVerdict (command_judgement kit.now self.now.players state command.now) None)
+            (λ fault. MayFind (command_judgement kit.now self.now.players state command.now) Refusal.OutOfMemory fault) }
         ensures game { IfOk result (λ applied. (accepted : List Line) → IsGameOf kit.now accepted self.now →
             IsGameOf kit.now (accepted ++ command.now ∷ []) applied.game) }
         ensures entries { IfOk result (λ applied. (accepted : List Line) → IsGameOf kit.now accepted self.now →

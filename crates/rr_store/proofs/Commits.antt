@@ -1,5 +1,5 @@
 -- What a commit does, from what the tables and the keeping of its record did.
-use Rattle.std.proofs.Common.{◌≡◌, ◌⊎◌, ◌↔◌, ℕ, ◌+◌, ◌≤◌, Bool, false, true, List, [], ◌∷◌, None, Some, Result, Ok, Err, IsErrOf, IsTrue, option_map, inl, inr, refl, sym, ap, subst, ◌∙◌, arith}
+use Rattle.std.proofs.Common.{◌≡◌, ◌⊎◌, ◌↔◌, ℕ, ◌+◌, ◌≤◌, Bool, false, true, List, [], ◌∷◌, None, Some, Result, Ok, Err, IsErrOf, IsTrue, Option, length, option_map, inl, inr, refl, sym, ap, subst, ◌∙◌, arith}
 use Rattle.rr_disk.specs.Disk.{DiskState}
 use Rattle.rr_disk.specs.Moments.{EachImage, LeavesOnly}
 use Rattle.rr_images.specs.Calls.{TakesNewer}
@@ -9,7 +9,7 @@ use Rattle.rr_kit.specs.Kits.{KitTexts, SpellsKit}
 use Rattle.rr_code.specs.declared.command.Command.{Command}
 use Rattle.rr_code.specs.Request.{IsRequest, record_text}
 use Rattle.rr_turns.specs.declared.request.Request.{Request}
-use Rattle.rr_turns.specs.Judgement.{IsVerdict, MayFind}
+use Rattle.rr_turns.specs.Judgement.{IsVerdict, Judgement, MayFind}
 use Rattle.rr_turns.proofs.JudgementLemmas.{lawful-first, map-is}
 use Rattle.rr_words.specs.Name.{IsTableName}
 use Rattle.rr_log.specs.declared.fault.Fault as log
@@ -32,19 +32,24 @@ use Rattle.rr_tables.specs.Records.World as ruled
 use Rattle.rr_tables.specs.declared.fault.Fault as table
 use Rattle.rr_tables.specs.declared.fault.Fault.TheVariants.{File, Rules}
 use Rattle.rr_tables.specs.Tables.{world_of}
+use Rattle.rr_game.proofs.HistoryLemmas.Seeing.{refuses_map, refuses_wanting}
+use Rattle.rr_tables.specs.Seeing.{HeedsIn, MayRefuseSeen, world_judgement_at}
+use Rattle.rr_tables.specs.Seeing as seen_in
+use Rattle.rr_tables.proofs.SeeingLemmas.{heeds_map}
 use Rattle.rr_tables.specs.Taking.{MayRefuse, Passed}
 use Rattle.rr_store.specs.declared.fault.Fault.{Fault}
 use Rattle.rr_store.specs.declared.fault.Fault.TheVariants as F
 use Rattle.rr_store.specs.declared.journal.FileJournal.{FileJournal}
 use Rattle.rr_store.specs.declared.store.Store.{Store}
 use Rattle.rr_store.specs.Allowing.{BeforeOrAfter, Between, CommitAllows, CommitEnds, IsLawful, Keeps}
-use Rattle.rr_store.specs.Committing.{Commits, NumberBehind, Spares, layout_behind}
+use Rattle.rr_store.specs.Committing.{Commits, HoldsBehind, NumberBehind, Spares, layout_behind}
 use Rattle.rr_store.specs.Fault.{CountsEnd, OnDeviceFault, of_log, of_rules, of_tables}
 use Rattle.rr_store.specs.Files.{AreTablesOf}
-use Rattle.rr_store.specs.Held.{Accepted, Again, Fails, Held, NoRoom, Refused, Takes, Wants, stamp_after, with_tables}
+use Rattle.rr_store.specs.Held.{Accepted, Again, Fails, Held, NoRoom, Refused, Takes, Wants, stamp_after, with_failure, with_tables}
 use Rattle.rr_store.specs.Holding.{Carries, GamesArePlayed, GamesHaveSnapshots, HasNoRoom, IsFull, IsUnchanged, disk_of, file_of, held_of, lent_of, number_of_next, replayed_of, ticks_left}
 use Rattle.rr_store.specs.Keeping.{GrowsInAll, Keeping, MakesAtMost, length_on}
 use Rattle.rr_store.specs.Named.{KeepsNames, LendsNamed, NamesComing, NamesRoots, NamesSnapshots}
+use Rattle.rr_store.specs.Seeing.{Heeds, IsJudgedBy, IsSeenAt, IsToldPlainly, MayRefuseBy, Seen, judgement_at, plain_verdict}
 use Rattle.rr_store.specs.World.{World, for_table, judgement_in, world_after}
 use Rattle.rr_store.proofs.Keepings.{grown_not}
 use Rattle.rr_store.proofs.NamedRoots.{images_named, names_there, names_unchanged, root_named, roots_there, store_named}
@@ -68,6 +73,19 @@ spares_same old new _ same = same
 number_same : (fault : Fault) (old new : ℕ) → new ≡ old → NumberBehind (Err fault) old new
 number_same F.DeviceFailed old new same = tt
 number_same _ old new same = same
+
+holds_same : (old new : Held) (name : List ℕ) (c : Request Command) (fault : Fault) → (fault ≡ F.DeviceFailed → ⊥) → new ≡ old → HoldsBehind old name c (Err fault) new
+holds_same old new name c F.DeviceFailed other same = absurd (other refl)
+holds_same old new name c _ other same = same
+
+-- a refusal by the rules is one by their judgement
+judged_so : (j : Judgement Fault) (c : Request Command) (fault : rules.Fault) → MayRefuseBy j F.OutOfMemory c (of_rules fault) → IsJudgedBy j c (Err (of_rules fault))
+judged_so j c (R.Game fault) h = h
+judged_so j c _ h = h
+
+plain_so : (o : Option Fault) (fault : rules.Fault) → Heeds o (of_rules fault) → IsToldPlainly o (Err (of_rules fault))
+plain_so o (R.Game fault) h = h
+plain_so o _ h = h
 
 counts_same : (fault : Fault) (old new : ℕ) → (fault ≡ F.DeviceFailed → ⊥) → new ≡ old → CountsEnd {T = ℕ} old new (Err fault)
 counts_same F.DeviceFailed old new other same = absurd (other refl)
@@ -121,17 +139,37 @@ module _ {D : Type 0} (Honest Works : D → Type 0) (state : D → DiskState) (p
   abbrev Told : Result ℕ Fault → Type 0
   Told result = Played → Takes (held_of old) stamp name c (held_of new) result
 
+  abbrev JudgedOn : Result ℕ Fault → Type 0
+  JudgedOn result = (seen : Option Seen) → IsSeenAt old name seen → IsJudgedBy (judgement_at kit_now seen (length tables_now) stamp c) c result
+
+  -- by the position in memory no rule refuses it
+  abbrev LawfulSeen : Type 0
+  LawfulSeen = (seen : Option Seen) → IsSeenAt old name seen → IsVerdict (judgement_at kit_now seen (length tables_now) stamp c) None
+
+  -- what the checks say that look at no position
+  abbrev ruled_plainly : Option rules.Fault
+  ruled_plainly = seen_in.plain_verdict (ruled.table_named tables_now name) (length tables_now) stamp c
+
+  abbrev Plain : Result ℕ Fault → Type 0
+  Plain result = IsToldPlainly (plain_verdict tables_now stamp name c) result
+
+  abbrev Passes_plainly : Type 0
+  Passes_plainly = plain_verdict tables_now stamp name c ≡ None
+
   abbrev KeptBy : Log D TableRules → Kept → Log D TableRules → Type 0
   KeptBy before kept after = Keeping Honest Works state past faults writes syncs before (lent_of old) bytes_of kept after
 
   -- all is as it was
   spared : (fault : Fault) → (fault ≡ F.DeviceFailed → ⊥) → (fault ≡ F.FileFull → ⊥) → IsErrOf {T = ℕ} (Err fault) F.OpenAgain ↔ IsTrue (held_of old).broken → PlayedOn → ShownOn
-      → Told (Err fault) → IsUnchanged old new → Done (Err fault)
-  spared fault other room again played_on shown_on takes same =
+      → Told (Err fault) → JudgedOn (Err fault) → Plain (Err fault) → IsUnchanged old new → Done (Err fault)
+  spared fault other room again played_on shown_on takes judged plain same =
       record {
         takes = takes;
         played = played_on;
         snapshots = shown_on;
+        judged = judged;
+        plain = plain;
+        holds = holds_same (held_of old) (held_of new) name c fault other same.same_held;
         again = again;
         honest = λ h. subst Honest same_disk h;
         allowed = λ h texts s. record {
@@ -164,7 +202,7 @@ module _ {D : Type 0} (Honest Works : D → Type 0) (state : D → DiskState) (p
         renews_names = λ h whole one none texts s names. let left : ticks_left new ≡ ticks_left old = ap (λ (f : Log D TableRules). file.ticks_left f) same.same_file in absurd (omega (arith, one, none, left));
         number = number_same fault (number_of_next old) (number_of_next new) (ap (λ (f : Log D TableRules). next_number f) same.same_file);
         spares = spares_same old new fault same;
-        wanting = λ played is. inl same;
+        wanting = λ is. inl same;
         counts = counts_same fault (faults (disk_of old)) (faults (disk_of new)) other (ap faults same_disk);
         works = λ w. subst Works same_disk w;
         few_writes = λ room. at_most writes 3;
@@ -209,7 +247,7 @@ module _ {D : Type 0} (Honest Works : D → Type 0) (state : D → DiskState) (p
   pub commits_again : new ≡ old → (held_of old).broken ≡ true → Done (Err F.OpenAgain)
   commits_again still broken =
       spared F.OpenAgain (λ is. absurd (cc is)) (λ is. absurd (cc is)) (λ is. broken, λ is. refl) (λ played. subst GamesArePlayed (sym still) played) (λ played had. subst GamesHaveSnapshots (sym still) had)
-      (λ played. Again broken (ap held_of still))
+      (λ played. Again broken (ap held_of still)) (λ seen is. tt) tt
       (record { same_file = ap file_of still; same_held = ap held_of still })
 
   module _ (form : IsTableName name × IsRequest c) (was : is_broken (file_of old) ≡ false) (played_on : PlayedOn) (shown_on : ShownOn) where
@@ -274,12 +312,15 @@ module _ {D : Type 0} (Honest Works : D → Type 0) (state : D → DiskState) (p
 
     -- the request was taken
     taken : (n : ℕ) → Told (Ok n) → (Played → Lawful) → (Played → held_of new ≡ with_tables (held_of old) behind)
-        → KeptBy (file_of old) (Ok tt) (file_of new) → Done (Ok n)
-    taken n takes lawful held_is k =
+        → HoldsBehind (held_of old) name c (Ok n) (held_of new) → LawfulSeen → Passes_plainly → KeptBy (file_of old) (Ok tt) (file_of new) → Done (Ok n)
+    taken n takes lawful held_is holds lawful_seen plain k =
         record {
           takes = takes;
           played = played_on;
           snapshots = shown_on;
+          judged = lawful_seen;
+          plain = plain;
+          holds = holds;
           again = not_again (Ok n) (λ is. cc is);
           honest = k.honest;
           allowed = λ h texts s. passed_by (Ok tt) (Ok n) lawful k h texts s
@@ -299,7 +340,7 @@ module _ {D : Type 0} (Honest Works : D → Type 0) (state : D → DiskState) (p
               (k.renews_names h k.broken one none kit_now (in_words texts tables_now) (in_words texts behind) (leads texts s) (carried_lent state old texts s) names);
           number = k.number;
           spares = tt;
-          wanting = λ played is. absurd (cc is);
+          wanting = λ is. absurd (cc is);
           counts = k.counts;
           works = k.works;
           few_writes = k.few_writes;
@@ -333,12 +374,15 @@ module _ {D : Type 0} (Honest Works : D → Type 0) (state : D → DiskState) (p
             }
 
     -- the device failed
-    failed : Told (Err F.DeviceFailed) → (Played → Lawful) → KeptBy (file_of old) (Err L.DeviceFailed) (file_of new) → Done (Err F.DeviceFailed)
-    failed takes lawful k =
+    failed : Told (Err F.DeviceFailed) → (Played → Lawful) → held_of new ≡ with_failure (held_of old) → LawfulSeen → Passes_plainly → KeptBy (file_of old) (Err L.DeviceFailed) (file_of new) → Done (Err F.DeviceFailed)
+    failed takes lawful held_is lawful_seen plain k =
         record {
           takes = takes;
           played = played_on;
           snapshots = shown_on;
+          judged = lawful_seen;
+          plain = inr plain;
+          holds = held_is;
           again = not_again (Err F.DeviceFailed) (λ is. cc is);
           honest = k.honest;
           allowed = λ h texts s. passed_by (Err L.DeviceFailed) (Err F.DeviceFailed) lawful k h texts s (λ moments. lawful_in texts s (lawful s.played));
@@ -350,7 +394,7 @@ module _ {D : Type 0} (Honest Works : D → Type 0) (state : D → DiskState) (p
           renews_names = λ h whole one none texts s names. let both : true ≡ false = sym k.broken ∙ whole in absurd (cc both);
           number = tt;
           spares = tt;
-          wanting = λ played is. absurd (cc is);
+          wanting = λ is. absurd (cc is);
           counts = k.counts;
           works = k.works;
           few_writes = k.few_writes;
@@ -404,12 +448,15 @@ module _ {D : Type 0} (Honest Works : D → Type 0) (state : D → DiskState) (p
       keeps_on : Honest (disk_of new) → (texts : KitTexts) → Carries state old texts → Keeps (state (disk_of new)) texts tables_now
       keeps_on h texts s = subst (λ (w : World). Keeps (state (disk_of new)) texts w) (ap (λ (x : Held). x.tables) held_is) (carried_keeps state new texts (goes_on h texts s))
 
-    file_full : Told (Err F.FileFull) → (Played → Lawful) → held_of new ≡ held_of old → KeptBy (file_of old) (Err L.FileFull) (file_of new) → Done (Err F.FileFull)
-    file_full takes lawful held_is k =
+    file_full : Told (Err F.FileFull) → (Played → Lawful) → held_of new ≡ held_of old → LawfulSeen → Passes_plainly → KeptBy (file_of old) (Err L.FileFull) (file_of new) → Done (Err F.FileFull)
+    file_full takes lawful held_is lawful_seen plain k =
         record {
           takes = takes;
           played = played_on;
           snapshots = shown_on;
+          judged = lawful_seen;
+          plain = inr plain;
+          holds = held_is;
           again = not_again (Err F.FileFull) (λ is. cc is);
           honest = k.honest;
           allowed = λ h texts s. passed_by (Err L.FileFull) (Err F.FileFull) lawful k h texts s (λ moments. keeps_on L.FileFull lawful k k.broken held_is h texts s);
@@ -421,7 +468,7 @@ module _ {D : Type 0} (Honest Works : D → Type 0) (state : D → DiskState) (p
           renews_names = λ h whole one none texts s names. renews_names_on L.FileFull lawful k whole held_is one none h texts s names;
           number = k.number;
           spares = tt;
-          wanting = λ played is. absurd (cc is);
+          wanting = λ is. absurd (cc is);
           counts = k.counts;
           works = k.works;
           few_writes = k.few_writes;
@@ -440,12 +487,15 @@ module _ {D : Type 0} (Honest Works : D → Type 0) (state : D → DiskState) (p
           device = tt;
         }
 
-    no_memory : Told (Err F.OutOfMemory) → (Played → Lawful) → held_of new ≡ held_of old → KeptBy (file_of old) (Err L.OutOfMemory) (file_of new) → Done (Err F.OutOfMemory)
-    no_memory takes lawful held_is k =
+    no_memory : Told (Err F.OutOfMemory) → (Played → Lawful) → held_of new ≡ held_of old → LawfulSeen → Passes_plainly → KeptBy (file_of old) (Err L.OutOfMemory) (file_of new) → Done (Err F.OutOfMemory)
+    no_memory takes lawful held_is lawful_seen plain k =
         record {
           takes = takes;
           played = played_on;
           snapshots = shown_on;
+          judged = λ seen is. refuses_wanting (judgement_at kit_now seen (length tables_now) stamp c) F.OutOfMemory c F.OutOfMemory (lawful_seen seen is) refl;
+          plain = inr plain;
+          holds = held_is;
           again = not_again (Err F.OutOfMemory) (λ is. cc is);
           honest = k.honest;
           allowed = λ h texts s. passed_by (Err L.OutOfMemory) (Err F.OutOfMemory) lawful k h texts s (λ moments. keeps_on L.OutOfMemory lawful k k.broken held_is h texts s);
@@ -457,7 +507,7 @@ module _ {D : Type 0} (Honest Works : D → Type 0) (state : D → DiskState) (p
           renews_names = λ h whole one none texts s names. renews_names_on L.OutOfMemory lawful k whole held_is one none h texts s names;
           number = k.number;
           spares = tt;
-          wanting = λ played is. wants played (k.memory refl);
+          wanting = λ is. wants (k.memory refl);
           counts = k.counts;
           works = k.works;
           few_writes = k.few_writes;
@@ -476,14 +526,24 @@ module _ {D : Type 0} (Honest Works : D → Type 0) (state : D → DiskState) (p
           device = tt;
         }
       where
-        wants : Played → (file_of new ≡ file_of old) ⊎ HasNoRoom new name c → IsUnchanged old new ⊎ (Lawful × HasNoRoom new name c)
-        wants played (inl same) = inl (record { same_file = same; same_held = held_is })
-        wants played (inr none) = inr (lawful played, none)
+        wants : (file_of new ≡ file_of old) ⊎ HasNoRoom new name c → IsUnchanged old new ⊎ ((Played → Lawful) × HasNoRoom new name c)
+        wants (inl same) = inl (record { same_file = same; same_held = held_is })
+        wants (inr none) = inr (lawful, none)
+
+    -- by the position in memory no rule refuses it, as its judge says
+    abbrev SeenBy : Type 0
+    SeenBy = (seen : Option Seen) → IsSeenAt old name seen → IsVerdict (world_judgement_at kit_now seen (length tables_now) stamp c) None
+
+    passes : ruled_plainly ≡ None → Passes_plainly
+    passes none = ap (option_map of_rules) none
+
+    lawful_by : SeenBy → LawfulSeen
+    lawful_by by seen is = map-is of_rules (world_judgement_at kit_now seen (length tables_now) stamp c) None (by seen is)
 
     module _ (kit_is : new.tables.kit ≡ old.tables.kit) where
       pub commits : (n : ℕ) → (Played → IsVerdict (ruled.judgement_in kit_now tables_now stamp name c) None)
-          → (Played → world_of new.tables ≡ behind) → n ≡ stamp_after kit_now tables_now name c → KeptBy (file_of old) (Ok tt) (file_of new) → Done (Ok n)
-      commits n by_rules world counted k = taken n takes lawful held_is k
+          → SeenBy → ruled_plainly ≡ None → (Played → world_of new.tables ≡ behind) → n ≡ stamp_after kit_now tables_now name c → KeptBy (file_of old) (Ok tt) (file_of new) → Done (Ok n)
+      commits n by_rules seen plain world counted k = taken n takes lawful held_is (kit_is, k.broken ∙ sym was, counted) (lawful_by seen) (passes plain) k
         where
           lawful : Played → Lawful
           lawful played = map-is of_rules (ruled.judgement_in kit_now tables_now stamp name c) None (by_rules played)
@@ -500,35 +560,43 @@ module _ {D : Type 0} (Honest Works : D → Type 0) (state : D → DiskState) (p
         held_is_if : (b : Bool) → is_broken (file_of new) ≡ b → held_of new ≡ held kit_now tables_now b
         held_is_if b is = held_same kit_now new.tables.kit tables_now (world_of new.tables) b (is_broken (file_of new)) kit_is world is
 
-        by_rule : (fault : rules.Fault) → (Played → MayFind (ruled.judgement_in kit_now tables_now stamp name c) R.OutOfMemory fault) → file_of new ≡ file_of old → Done (Err (of_rules fault))
-        by_rule fault found still =
+        by_rule : (fault : rules.Fault) → (Played → MayFind (ruled.judgement_in kit_now tables_now stamp name c) R.OutOfMemory fault)
+            → ((seen : Option Seen) → IsSeenAt old name seen → MayRefuseBy (world_judgement_at kit_now seen (length tables_now) stamp c) R.OutOfMemory c fault)
+            → Heeds ruled_plainly fault → file_of new ≡ file_of old → Done (Err (of_rules fault))
+        by_rule fault found seen plain still =
             let same = held_is_if (is_broken (file_of old)) (ap (λ (f : Log D TableRules). is_broken f) still) in
             spared (of_rules fault) (no_failure fault) (no_full fault) (not_again (Err (of_rules fault)) (λ is. no_again fault (let one : of_rules fault ≡ F.OpenAgain = cc is in one))) played_on shown_on
-            (λ played. refused_by (found played) same) (record { same_file = still; same_held = same })
+            (λ played. refused_by (found played) same)
+            (λ other is. judged_so (judgement_at kit_now other (length tables_now) stamp c) c fault
+            (refuses_map of_rules (world_judgement_at kit_now other (length tables_now) stamp c) R.OutOfMemory c fault (seen other is)))
+            (plain_so (plain_verdict tables_now stamp name c) fault (heeds_map of_rules ruled_plainly fault plain))
+            (record { same_file = still; same_held = same })
           where
             refused_by : MayFind (ruled.judgement_in kit_now tables_now stamp name c) R.OutOfMemory fault → held_of new ≡ held_of old → Takes (held_of old) stamp name c (held_of new) (Err (of_rules fault))
             refused_by (inl verdict) same = Refused (of_rules fault) was (map-is of_rules (ruled.judgement_in kit_now tables_now stamp name c) (Some fault) verdict) same
             refused_by (inr wants) same =
                 subst (λ (f : rules.Fault). Takes (held_of old) stamp name c (held_of new) (Err (of_rules f))) (sym wants.1) (Wants was (ap (option_map of_rules) wants.0) same)
 
-        by_file : (fault : log.Fault) → (Played → IsVerdict (ruled.judgement_in kit_now tables_now stamp name c) None) → KeptBy (file_of old) (Err fault) (file_of new) → Done (Err (of_log fault))
-        by_file L.DeviceFailed by_rules k =
+        by_file : (fault : log.Fault) → (Played → IsVerdict (ruled.judgement_in kit_now tables_now stamp name c) None) → SeenBy → ruled_plainly ≡ None → KeptBy (file_of old) (Err fault) (file_of new) → Done (Err (of_log fault))
+        by_file L.DeviceFailed by_rules seen plain k =
             let lawful : Played → Lawful = λ played. map-is of_rules (ruled.judgement_in kit_now tables_now stamp name c) None (by_rules played) in
-            failed (λ played. Fails was (lawful played) (held_is_if true k.broken)) lawful k
-        by_file L.HalfFull by_rules k = absurd (k.room refl)
-        by_file L.FileFull by_rules k =
-            let lawful : Played → Lawful = λ played. map-is of_rules (ruled.judgement_in kit_now tables_now stamp name c) None (by_rules played) in
-            let same = held_is_if (is_broken (file_of old)) (k.broken ∙ sym was) in
-            file_full (λ played. NoRoom was (lawful played) same) lawful same k
-        by_file L.OpenAgain by_rules k = let both : true ≡ false = sym (k.again.0 refl) ∙ was in absurd (cc both)
-        by_file L.OutOfMemory by_rules k =
+            failed (λ played. Fails was (lawful played) (held_is_if true k.broken)) lawful (held_is_if true k.broken) (lawful_by seen) (passes plain) k
+        by_file L.HalfFull by_rules seen plain k = absurd (k.room refl)
+        by_file L.FileFull by_rules seen plain k =
             let lawful : Played → Lawful = λ played. map-is of_rules (ruled.judgement_in kit_now tables_now stamp name c) None (by_rules played) in
             let same = held_is_if (is_broken (file_of old)) (k.broken ∙ sym was) in
-            no_memory (λ played. Wants was (lawful-first (judgement_in kit_now tables_now stamp name c) (lawful played)) same) lawful same k
+            file_full (λ played. NoRoom was (lawful played) same) lawful same (lawful_by seen) (passes plain) k
+        by_file L.OpenAgain by_rules seen plain k = let both : true ≡ false = sym (k.again.0 refl) ∙ was in absurd (cc both)
+        by_file L.OutOfMemory by_rules seen plain k =
+            let lawful : Played → Lawful = λ played. map-is of_rules (ruled.judgement_in kit_now tables_now stamp name c) None (by_rules played) in
+            let same = held_is_if (is_broken (file_of old)) (k.broken ∙ sym was) in
+            no_memory (λ played. Wants was (lawful-first (judgement_in kit_now tables_now stamp name c) (lawful played)) same) lawful same (lawful_by seen) (passes plain) k
 
         pub commits_not : (fault : table.Fault) → (Played → MayRefuse (ruled.judgement_in kit_now tables_now stamp name c) fault)
+            → ((seen : Option Seen) → IsSeenAt old name seen → MayRefuseSeen (world_judgement_at kit_now seen (length tables_now) stamp c) c fault)
+            → HeedsIn ruled_plainly fault
             → Passed {A = ℕ} (λ (before : FileJournal D) (lent : Lent) (bytes : List ℕ) (kept : Kept) (after : FileJournal D). Keeping Honest Works state past faults writes syncs before.file lent bytes kept after.file)
             old.journal (lent_of old) bytes_of new.journal (Err fault)
             → Done (Err (of_tables fault))
-        commits_not (Rules fault) verdict passed = by_rule fault verdict (ap (λ (j : FileJournal D). j.file) passed)
-        commits_not (File fault) verdict passed = by_file fault verdict passed
+        commits_not (Rules fault) verdict seen plain passed = by_rule fault verdict seen plain (ap (λ (j : FileJournal D). j.file) passed)
+        commits_not (File fault) verdict seen plain passed = by_file fault verdict seen plain passed

@@ -1,5 +1,5 @@
 -- What a commit does to a store.
-use Rattle.std.specs.Prelude.{◌≡◌, None, ◌⊎◌, ◌↔◌, ℕ, ◌+◌, ◌≤◌, false, List, Some, Result, Ok, Err, IsErrOf, IsTrue, OnOk}
+use Rattle.std.specs.Prelude.{◌≡◌, None, ◌⊎◌, ◌↔◌, ℕ, ◌+◌, ◌≤◌, false, List, Option, Some, Result, Ok, Err, IsErrOf, IsTrue, OnOk, length}
 use Rattle.rr_disk.specs.Disk.{DiskState}
 use Rattle.rr_disk.specs.Moments.{EachImage, LeavesOnly}
 use Rattle.rr_code.specs.declared.command.Command.{Command}
@@ -19,10 +19,11 @@ use Rattle.rr_store.specs.declared.fault.Fault.TheVariants as F
 use Rattle.rr_store.specs.declared.store.Store.{Store}
 use Rattle.rr_store.specs.Allowing.{Between, CommitAllows}
 use Rattle.rr_store.specs.Fault.{CountsEnd, OnDeviceFault}
-use Rattle.rr_store.specs.Held.{Takes}
+use Rattle.rr_store.specs.Held.{Held, Takes, stamp_after, with_failure}
 use Rattle.rr_store.specs.Holding.{Carries, GamesArePlayed, GamesHaveSnapshots, HasNoRoom, IsFull, IsFullFor, IsUnchanged, Rests, disk_of, file_of, held_of, lent_of, number_of_next, replayed_of, ticks_left}
 use Rattle.rr_store.specs.Keeping.{ComesOn, GrowsInAll, MakesAtMost, length_on}
 use Rattle.rr_store.specs.Named.{KeepsNames, LendsNamed, NamesComing, NamesRoots, NamesSnapshots}
+use Rattle.rr_store.specs.Seeing.{IsJudgedBy, IsSeenAt, IsToldPlainly, Seen, judgement_at, plain_verdict}
 use Rattle.rr_store.specs.World.{for_table, judgement_in}
 use Rattle.rr_reading.specs.Worlds.World as words
 
@@ -46,6 +47,14 @@ Spares old (Err F.FileFull) new = Unit {0}
 Spares old (Err F.OutOfMemory) new = Unit {0}
 Spares old (Err fault) new = IsUnchanged old new
 
+-- What a store holds behind a request, whatever was played: the kit stays; a request that is refused changes no table; the store
+-- is broken from then on where the device failed, and only there; and a request that was taken raises its table's stamp by one.
+abbrev pub HoldsBehind : Held → List ℕ → Request Command → Result ℕ Fault → Held → Type 0
+HoldsBehind old name request (Ok stamp) new =
+    (new.kit ≡ old.kit) × (new.broken ≡ old.broken) × (stamp ≡ stamp_after old.kit old.tables name request)
+HoldsBehind old name request (Err F.DeviceFailed) new = new ≡ with_failure old
+HoldsBehind old name request (Err fault) new = new ≡ old
+
 -- What a commit does, by its result: of every disk, where nothing else is said.
 pub record Commits {D : Type 0} (Honest Works : D → Type 0) (state : D → DiskState) (past : D → List DiskState) (faults writes syncs : D → ℕ)
     (old : Store D) (name : List ℕ) (stamp : ℕ) (request : Request Command) (new : Store D) (result : Result ℕ Fault) : Type 0 where
@@ -53,6 +62,12 @@ pub record Commits {D : Type 0} (Honest Works : D → Type 0) (state : D → Dis
   pub takes : GamesArePlayed old → Takes (held_of old) stamp name request (held_of new) result
   pub played : GamesArePlayed old → GamesArePlayed new
   pub snapshots : GamesArePlayed old → GamesHaveSnapshots old → GamesHaveSnapshots new
+  -- Whatever was played: the result is as the rules say of each book for which the position in memory stands; what the checks
+  -- say that look at no position; and what is held then.
+  pub judged : (seen : Option Seen) → IsSeenAt old name seen
+      → IsJudgedBy (judgement_at (held_of old).kit seen (length (held_of old).tables) stamp request) request result
+  pub plain : IsToldPlainly (plain_verdict (held_of old).tables stamp name request) result
+  pub holds : HoldsBehind (held_of old) name request result (held_of new)
   -- a store that is broken answers so, and no other
   pub again : IsErrOf result F.OpenAgain ↔ IsTrue (held_of old).broken
   pub honest : Honest (disk_of new) → Honest (disk_of old)
@@ -82,12 +97,12 @@ pub record Commits {D : Type 0} (Honest Works : D → Type 0) (state : D → Dis
       → LeavesOnly (past (disk_of old)) (state (disk_of old)) (past (disk_of new)) (state (disk_of new)) (NamesSnapshots (held_of old).kit)
   -- the number of the next record
   pub number : NumberBehind result (number_of_next old) (number_of_next new)
-  -- a refusal by the rules changes nothing; nor, where the tables were played, does want of memory, unless the request is
-  -- lawful and behind the call the half in use has no room for its record: so no record that has room is refused for want of a
-  -- checkpoint's memory
+  -- a refusal by the rules changes nothing; nor does want of memory, unless behind the call the half in use has no room for the
+  -- request's record, and the request is lawful where the tables were played: so no record that has room is refused for want of
+  -- a checkpoint's memory
   pub spares : Spares old result new
-  pub wanting : GamesArePlayed old → result ≡ Err F.OutOfMemory → IsUnchanged old new
-      ⊎ (IsVerdict (judgement_in (held_of old).kit (held_of old).tables stamp name request) None × HasNoRoom new name request)
+  pub wanting : result ≡ Err F.OutOfMemory → IsUnchanged old new
+      ⊎ ((GamesArePlayed old → IsVerdict (judgement_in (held_of old).kit (held_of old).tables stamp name request) None) × HasNoRoom new name request)
   -- a device fault is told exactly where the disk counts one
   pub counts : CountsEnd (faults (disk_of old)) (faults (disk_of new)) result
   pub works : Works (disk_of new) → Works (disk_of old)

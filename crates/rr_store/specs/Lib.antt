@@ -17,3 +17,4 @@ pub mod Sessions
 pub mod Recovery
 pub mod Replayed
 pub mod Named
+pub mod Seeing

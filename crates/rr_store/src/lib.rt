@@ -4,8 +4,10 @@
 //! Stands on `rr_tables` and `rr_log`. Its promises:
 //!
 //! - `Store::commit`: each image of each moment stands for the tables before it, or with the one pending lawful
-//!   request; after success with it (`CommitAllows`). `Commits` counts its calls. If tables were played, 70 changes
-//!   nothing, unless the request is lawful and the half has no room after it.
+//!   request; after success with it (`CommitAllows`). `Commits` counts its calls. 70 changes nothing, unless the half
+//!   has no room after it, and the request is lawful if tables were played.
+//! - A commit is judged by the rules of each book for which the position in memory stands, whatever the file had. 52,
+//!   54, 66 and 68 come first. Only `ok` changes a table (`Commits`: `judged`, `plain`, `holds`).
 //! - `Store::tick` and `Store::checkpoint`: each image stands for the same tables, and after the last step has a newer
 //!   root (`Steps`).
 //! - `open` makes one sync and no write, and answers as `OpenAllows` says; 70 comes only if a root is current.

@@ -6,3 +6,4 @@ pub mod WordLemmas
 pub mod LendingLemmas
 pub mod WholeLending
 pub mod RecordLemmas
+pub mod SeeingLemmas

@@ -4,3 +4,4 @@ pub mod Lending
 pub mod Changing
 pub mod Taking
 pub mod Records
+pub mod Seeing

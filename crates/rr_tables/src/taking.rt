@@ -1,19 +1,22 @@
 //! Requests: judged, their records kept, and then taken.
-ghost use Rattle.std.specs.Prelude.{◌≡◌, ◌<◌, ℕ, List, IfOk, IfErr, OnOk, OnErr, MatchOption, MatchResult, None, Some, bytes_eq, option_map};
+ghost use Rattle.std.specs.Prelude.{◌≡◌, ◌<◌, ℕ, List, Option, length, IfOk, IfErr, OnOk, OnErr, MatchOption, MatchResult, None, Some, bytes_eq, option_map};
 ghost use Rattle.indexmap.specs.IndexMap.{get, index_map_len};
 ghost use Rattle.rr_code.specs.Request.{IsRequest, record_text};
 ghost use Rattle.rr_code.specs.declared.command.Command.{Command as Line};
 ghost use Rattle.rr_game.specs.History.Changing.{Fits, IsChangeBy, kept_with};
 ghost use Rattle.rr_game.specs.History.Playing.{ends_turn};
+ghost use Rattle.rr_game.specs.History.Seeing.{Heeds, IsSeenAs, MayRefuseBy, Seen, judgement_at};
 ghost use Rattle.rr_game.specs.History.Tables.{HasItsSnapshots, HasRoomFor, IsPlayed, ShowsBy, kept_in};
 ghost use Rattle.rr_kit.specs.declared.kit.Kit.{Kit as AnyKit};
+ghost use Rattle.rr_tables.specs.Records.Fault.{of_table};
 ghost use Rattle.rr_tables.specs.Records.World.{judgement_in, opening_verdict, state_after, step_judgement, table_named, world_after};
 ghost use Rattle.rr_tables.specs.declared.records.fault.Fault.TheVariants as R;
 ghost use Rattle.rr_tables.specs.Changing.{HasRoomIn, IsChangeOf, IsWritableChange};
 ghost use Rattle.rr_tables.specs.Tables.{AreSame, ArePlayed, HaveTheirSnapshots, kept_in_box, lent_by, world_of};
+ghost use Rattle.rr_tables.specs.Seeing.{HeedsIn, IsSeenAt, MayRefuseSeen, plain_step, plain_verdict, step_judgement_at, world_judgement_at};
 ghost use Rattle.rr_tables.specs.Taking.{MayRefuse, Passed, plays_of};
 ghost use Rattle.rr_tables.specs.Writable.{IsWritable};
-ghost use Rattle.rr_turns.specs.Judgement.{IsVerdict, MayFind, settled};
+ghost use Rattle.rr_turns.specs.Judgement.{IsVerdict, MayFind, judgement_map, settled};
 ghost use Rattle.rr_turns.specs.Kept.{kept_after};
 ghost use Rattle.rr_turns.specs.declared.request.Request.{Request as AnyRequest};
 
@@ -55,6 +58,12 @@ impl Tables {
         ensures verdict { ArePlayed self.old → MatchResult result
             (λ _. IsVerdict (judgement_in self.old.kit (world_of self.old) stamp name.now request.now) None)
             (MayRefuse (judgement_in self.old.kit (world_of self.old) stamp name.now request.now)) }
+        ensures judged { (seen : Option Seen) → IsSeenAt self.old name.now seen → MatchResult result
+            (λ _. IsVerdict (world_judgement_at self.old.kit seen (length (world_of self.old)) stamp request.now) None)
+            (MayRefuseSeen (world_judgement_at self.old.kit seen (length (world_of self.old)) stamp request.now) request.now) }
+        ensures plain { MatchResult result
+            (λ _. plain_verdict (table_named (world_of self.old) name.now) (length (world_of self.old)) stamp request.now ≡ None)
+            (HeedsIn (plain_verdict (table_named (world_of self.old) name.now) (length (world_of self.old)) stamp request.now)) }
         ensures kept { Passed J.Keeps journal.old (lent_by self.old) (record_text name.now request.now) journal.new result }
         ensures world { OnOk result (ArePlayed self.old
             → world_of self.new ≡ world_after self.old.kit (world_of self.old) name.now request.now) }
@@ -134,6 +143,12 @@ impl Tables {
         ensures verdict { ArePlayed self.old → MatchResult result
             (λ _. IsVerdict (step_judgement self.old.kit (option_map kept_in_box (get bytes_eq self.old.map name.now)) stamp request.now) None)
             (MayRefuse (step_judgement self.old.kit (option_map kept_in_box (get bytes_eq self.old.map name.now)) stamp request.now)) }
+        ensures judged { (seen : Option Seen) → IsSeenAt self.old name.now seen → MatchResult result
+            (λ _. IsVerdict (step_judgement_at self.old.kit seen stamp request.now) None)
+            (MayRefuseSeen (step_judgement_at self.old.kit seen stamp request.now) request.now) }
+        ensures plain { MatchResult result
+            (λ _. plain_step (option_map kept_in_box (get bytes_eq self.old.map name.now)) stamp request.now ≡ None)
+            (HeedsIn (plain_step (option_map kept_in_box (get bytes_eq self.old.map name.now)) stamp request.now)) }
         ensures kept { Passed J.Keeps journal.old (lent_by self.old) (record_text name.now request.now) journal.new result }
         ensures world { OnOk result (ArePlayed self.old
             → world_of self.new ≡ world_after self.old.kit (world_of self.old) name.now request.now) }
@@ -164,6 +179,12 @@ impl Tables {
         ensures verdict { ArePlayed self.old → MatchResult result
             (λ _. IsVerdict (step_judgement self.old.kit (option_map kept_in_box (get bytes_eq self.old.map name.now)) stamp request.now) None)
             (MayFind (step_judgement self.old.kit (option_map kept_in_box (get bytes_eq self.old.map name.now)) stamp request.now) R.OutOfMemory) }
+        ensures judged { (seen : Option Seen) → IsSeenAt self.old name.now seen → MatchResult result
+            (λ _. IsVerdict (step_judgement_at self.old.kit seen stamp request.now) None)
+            (MayRefuseBy (step_judgement_at self.old.kit seen stamp request.now) R.OutOfMemory request.now) }
+        ensures plain { MatchResult result
+            (λ _. plain_step (option_map kept_in_box (get bytes_eq self.old.map name.now)) stamp request.now ≡ None)
+            (Heeds (plain_step (option_map kept_in_box (get bytes_eq self.old.map name.now)) stamp request.now)) }
         ensures change { IfOk result (λ change. IsChangeOf self.new.kit (get bytes_eq self.new.map name.now) request.now change) }
         ensures room { IfOk result (HasRoomIn (get bytes_eq self.new.map name.now)) }
         ensures same { AreSame name.now self.old self.new }
@@ -200,6 +221,12 @@ impl Tables {
         ensures verdict { ArePlayed self.now → MatchResult result
             (λ _. IsVerdict (step_judgement self.now.kit (option_map kept_in_box (get bytes_eq self.now.map name.now)) stamp request.now) None)
             (MayFind (step_judgement self.now.kit (option_map kept_in_box (get bytes_eq self.now.map name.now)) stamp request.now) R.OutOfMemory) }
+        ensures judged { (seen : Option Seen) → IsSeenAt self.now name.now seen → MatchResult result
+            (λ _. IsVerdict (step_judgement_at self.now.kit seen stamp request.now) None)
+            (MayRefuseBy (step_judgement_at self.now.kit seen stamp request.now) R.OutOfMemory request.now) }
+        ensures plain { MatchResult result
+            (λ _. plain_step (option_map kept_in_box (get bytes_eq self.now.map name.now)) stamp request.now ≡ None)
+            (Heeds (plain_step (option_map kept_in_box (get bytes_eq self.now.map name.now)) stamp request.now)) }
         ensures change { IfOk result (λ change. IsChangeOf self.now.kit (get bytes_eq self.now.map name.now) request.now change) }
     {
         match self.map.get(name) {
@@ -273,6 +300,12 @@ fn judge_at(
     ensures verdict { IsPlayed kit.now table.now → MatchResult result
         (λ _. IsVerdict (step_judgement kit.now (Some (kept_in table.now)) stamp request.now) None)
         (MayFind (step_judgement kit.now (Some (kept_in table.now)) stamp request.now) R.OutOfMemory) }
+    ensures judged { (seen : Seen) → IsSeenAs table.now seen → MatchResult result
+        (λ _. IsVerdict (judgement_map of_table (judgement_at kit.now seen stamp request.now)) None)
+        (MayRefuseBy (judgement_map of_table (judgement_at kit.now seen stamp request.now)) R.OutOfMemory request.now) }
+    ensures plain { MatchResult result
+        (λ _. plain_step (Some (kept_in table.now)) stamp request.now ≡ None)
+        (Heeds (plain_step (Some (kept_in table.now)) stamp request.now)) }
     ensures change { IfOk result (λ change. IsWritableChange kit.now table.now request.now change) }
 {
     let change = table.judge(alloc, stamp, request, kit)?;

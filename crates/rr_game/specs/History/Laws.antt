@@ -20,7 +20,9 @@ use Rattle.rr_game.specs.Turning.{ends_turn}
 use Rattle.rr_game.specs.History.Snapshots.{IsNearest}
 use Rattle.rr_game.specs.History.Tables.{HasItsSnapshots, IsPlayed, IsTableOf, kept_in, turns_in}
 use Rattle.rr_game.specs.History.TurnEntries.{turn_entries}
+use Rattle.rr_game.specs.History.Seeing.{IsSeenAs, judgement_at, seen_of}
 use Rattle.rr_game.specs.History.Verdict.{request_judgement}
+use Rattle.rr_game.specs.declared.history.fault.Fault.{Fault}
 
 -- a table that accepts one request more is that of all of them
 abbrev pub TablesGoOn : Type 0
@@ -76,3 +78,13 @@ abbrev pub TurnsMakeTheBook : Type 0
 TurnsMakeTheBook =
     (kit : Kit) (commands : List Command) → begins_with_opening commands ≡ true
     → joined (map (turn_entries kit commands) (range_with_len 0 (ended_turns (ends_turn kit) commands + 2))) ≡ (play kit commands).book
+
+-- a table that was played is seen as the play of what it keeps
+abbrev pub PlayedTablesAreSeen : Type 0
+PlayedTablesAreSeen = (kit : Kit) (table : Table) → IsPlayed kit table → IsSeenAs table (seen_of kit (kept_in table))
+
+-- and by that it is judged as the rules say of what it keeps
+abbrev pub PlaysAreJudgedAlike : Type 0
+PlaysAreJudgedAlike =
+    (kit : Kit) (kept : Kept Command) (stamp : ℕ) (request : Request Command) (verdict : Option Fault)
+    → IsVerdict (judgement_at kit (seen_of kit kept) stamp request) verdict → IsVerdict (request_judgement kit kept stamp request) verdict

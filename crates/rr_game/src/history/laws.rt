@@ -1,6 +1,6 @@
 //! What always holds of the tables of a game. The calls do nothing: their contracts hold of all tables.
 ghost use Rattle.std.specs.Prelude.{◌≡◌};
-ghost use Rattle.rr_game.specs.History.Laws.{AcceptedTurnsAreKept, BackGoesToItsTurn, BackKeepsItsCount, BackPlaysFew, BackToThePresentTurn, RequestsHaveOneVerdict, TablesGoOn, TurnsMakeTheBook};
+ghost use Rattle.rr_game.specs.History.Laws.{AcceptedTurnsAreKept, BackGoesToItsTurn, BackKeepsItsCount, BackPlaysFew, BackToThePresentTurn, PlayedTablesAreSeen, PlaysAreJudgedAlike, RequestsHaveOneVerdict, TablesGoOn, TurnsMakeTheBook};
 
 use crate::history::snapshots::SNAPSHOT_SPACING;
 
@@ -44,6 +44,13 @@ pub fn back_plays_few()
 /// The entries of all turns, the turn under way included, joined in order make the table's book.
 pub fn turns_make_the_book()
     ensures { TurnsMakeTheBook }
+{}
+
+/// A table whose game is the play of what it keeps is seen as that play, and so judged as the rules say of it. Of another
+/// table nothing but its position says how it is judged.
+pub fn played_tables_are_seen()
+    ensures seen { PlayedTablesAreSeen }
+    ensures judged { PlaysAreJudgedAlike }
 {}
 
 /// How many commands stand between two snapshots, in numbers.

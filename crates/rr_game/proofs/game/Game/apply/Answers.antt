@@ -44,3 +44,29 @@ pub returns-clause-entries : goal.returns-clause-entries
 returns-clause-entries c accepted h =
     added c.args.kit.now accepted c.args.command.now c.in_ok-act.act c.args.self.now _ h c.in_ok-act.ensures.0
     (c.in_ok-taken.ensures.entries (play c.args.kit.now accepted) h.standing)
+
+pub returns-in_err-judge_end-clause-judged : goal.returns-in_err-judge_end-clause-judged
+returns-in_err-judge_end-clause-judged c state h =
+    let p = err_from_is_err_and c.from_residual.result c.from_residual.ensures.1 in
+    rw (p.1, p.2) (unplayed c.args.kit.now c.args.self.now.players state c.args.command.now _ (c.in_err-judge_end.ensures state h))
+
+pub returns-in_err-act-clause-judged : goal.returns-in_err-act-clause-judged
+returns-in_err-act-clause-judged c state h =
+    let p = err_from_is_err_and c.from_residual-in_err-act.result c.from_residual-in_err-act.ensures.1 in
+    let players = c.args.self.now.players in
+    rw (p.1, p.2)
+    (unnamed c.args.kit.now players players state c.args.command.now _ refl (c.in_ok-judge_end.ensures state h) (c.in_err-act.ensures state h))
+
+pub returns-in_err-taken-clause-judged : goal.returns-in_err-taken-clause-judged
+returns-in_err-taken-clause-judged c state h =
+    let p = err_from_is_err_and c.from_residual-in_err-taken.result c.from_residual-in_err-taken.ensures.1 in
+    let players = c.args.self.now.players in
+    rw (p.1, p.2)
+    (command_refused c.args.kit.now players players state c.args.command.now c.in_ok-act.act _ refl
+    c.in_ok-act.ensures.0 (c.in_ok-judge_end.ensures state h) (c.in_err-taken.ensures.verdict state h))
+
+pub returns-clause-judged : goal.returns-clause-judged
+returns-clause-judged c state h =
+    let players = c.args.self.now.players in
+    command_lawful c.args.kit.now players players state c.args.command.now c.in_ok-act.act refl
+    c.in_ok-act.ensures.0 (c.in_ok-judge_end.ensures state h) (c.in_ok-taken.ensures.verdict state h)

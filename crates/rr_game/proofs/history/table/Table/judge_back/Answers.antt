@@ -1,4 +1,4 @@
-use Rattle.std.proofs.Common.{ℕ, ◌≤◌, take, Option, IfSome, refl, sym, ap, subst, ◌∙◌, arith}
+use Rattle.std.proofs.Common.{ℕ, ◌≤◌, true, false, inl, inr, take, Option, IfSome, refl, sym, ap, subst, ◌∙◌, arith}
 use Rattle.std.proofs.lemmas.Result.{err_from_is_err_and}
 use Rattle.rr_turns.specs.Turns.{ended_turns}
 use Rattle.rr_game.specs.Turning.{ends_turn}
@@ -9,6 +9,7 @@ use Rattle.rr_game.proofs.HistoryLemmas.Changes.{back_change}
 use Rattle.rr_game.proofs.HistoryLemmas.Judging.{back_wants}
 use Rattle.rr_game.proofs.HistoryLemmas.Making.{turn_named}
 use Rattle.rr_game.proofs.HistoryLemmas.Replays.{front_played}
+use Rattle.rr_game.proofs.HistoryLemmas.Seeing.{turn_seen}
 use Rattle.rr_game.proofs.history.table.Table.judge_back.Goals as goal
 
 pub returns-in_err-game-clause-verdict : goal.returns-in_err-game-clause-verdict
@@ -54,3 +55,14 @@ returns-clause-plays c =
     let table = c.args.self.now in
     subst (λ (count : ℕ). PlaysOn table.kept.snapshots count c.in_ok-game.field-0.plays)
     (sym (count_told table.game.ends c.args.turn c.unwrap-stay.result (sym c.played_at.ensures.value ∙ c.unwrap-stay.ensures))) c.in_ok-game.ensures.plays
+
+pub returns-then-not-keeps-clause-judged : goal.returns-then-not-keeps-clause-judged
+returns-then-not-keeps-clause-judged c = λ seen is. inl (turn_seen c.args.self.now seen is c.args.turn false c.if-not-keeps.ensures.value)
+
+pub returns-in_err-game-clause-judged : goal.returns-in_err-game-clause-judged
+returns-in_err-game-clause-judged c = λ seen is.
+    let p = err_from_is_err_and c.from_residual.result c.from_residual.ensures.1 in
+    rw p.1 (inr (turn_seen c.args.self.now seen is c.args.turn true c.if-not-keeps.ensures.value))
+
+pub returns-clause-judged : goal.returns-clause-judged
+returns-clause-judged c = λ seen is. turn_seen c.args.self.now seen is c.args.turn true c.if-not-keeps.ensures.value

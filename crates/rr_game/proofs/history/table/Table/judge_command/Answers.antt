@@ -1,4 +1,4 @@
-use Rattle.std.proofs.Common.{◌≡◌, ◌+◌, length, refl, arith}
+use Rattle.std.proofs.Common.{◌≡◌, ◌+◌, length, inl, inr, refl, arith}
 use Rattle.std.proofs.lemmas.Result.{err_from_is_err_and}
 use Rattle.rr_books.specs.declared.refusal.Refusal.TheVariants as G
 use Rattle.rr_turns.specs.declared.request.Request.TheVariants.{Play}
@@ -10,6 +10,7 @@ use Rattle.rr_game.specs.History.Playing.{game_judgement}
 use Rattle.rr_game.specs.History.Tables.{kept_in, turns_in}
 use Rattle.rr_game.specs.History.Verdict.{own_judgement, room_verdict}
 use Rattle.rr_game.proofs.HistoryLemmas.Judging.{has_room, lawful_with_room}
+use Rattle.rr_game.proofs.HistoryLemmas.Seeing.{full_room, seen_full, seen_lawful, seen_refuses, seen_wants}
 use Rattle.rr_game.proofs.HistoryLemmas.Changes.{command_change, fits_by, kept_by}
 use Rattle.rr_game.proofs.history.table.Table.judge_command.Goals as goal
 
@@ -72,3 +73,70 @@ returns-clause-fits c =
 
 pub returns-clause-shows : goal.returns-clause-shows
 returns-clause-shows c = record { turn = tt; stay = c.len-count.ensures.value; least = refl; snapshot = c.in_ok-snapshot.ensures.value }
+
+pub returns-then-count-ge-MOST_COMMANDS-clause-judged : goal.returns-then-count-ge-MOST_COMMANDS-clause-judged
+returns-then-count-ge-MOST_COMMANDS-clause-judged c = λ seen is.
+    let all : c.len-count.result ≡ length c.args.self.now.kept.commands = c.len-count.ensures.value in
+    seen_full c.args.kit.now c.args.self.now seen is c.args.command.now c.len-count.result all c.if-count-ge-MOST_COMMANDS.true
+
+pub returns-in_err-game-clause-judged : goal.returns-in_err-game-clause-judged
+returns-in_err-game-clause-judged c = λ seen is.
+    let p = err_from_is_err_and c.from_residual.result c.from_residual.ensures.1 in
+    let table = c.args.self.now in
+    let all : c.len-count.result ≡ length table.kept.commands = c.len-count.ensures.value in
+    rw (p.1, p.2)
+    (seen_refuses c.args.kit.now table seen is c.args.command.now (has_room (kept_in table) c.len-count.result all c.if-count-ge-MOST_COMMANDS.false) _
+    (c.in_err-game.ensures.judged seen.state is.standing))
+
+pub returns-in_err-added-clause-judged : goal.returns-in_err-added-clause-judged
+returns-in_err-added-clause-judged c = λ seen is.
+    let p = err_from_is_err_and c.from_residual-in_err-added.result c.from_residual-in_err-added.ensures.1 in
+    let table = c.args.self.now in
+    let all : c.len-count.result ≡ length table.kept.commands = c.len-count.ensures.value in
+    rw (p.1, p.2)
+    (seen_wants c.args.kit.now table seen is c.args.command.now (has_room (kept_in table) c.len-count.result all c.if-count-ge-MOST_COMMANDS.false) _
+    (c.in_ok-game.ensures.judged seen.state is.standing) c.in_err-added.ensures.memory)
+
+pub returns-in_err-snapshot-clause-judged : goal.returns-in_err-snapshot-clause-judged
+returns-in_err-snapshot-clause-judged c = λ seen is.
+    let p = err_from_is_err_and c.from_residual-in_err-snapshot.result c.from_residual-in_err-snapshot.ensures.1 in
+    let table = c.args.self.now in
+    let all : c.len-count.result ≡ length table.kept.commands = c.len-count.ensures.value in
+    rw (p.1, p.2)
+    (seen_wants c.args.kit.now table seen is c.args.command.now (has_room (kept_in table) c.len-count.result all c.if-count-ge-MOST_COMMANDS.false) _
+    (c.in_ok-game.ensures.judged seen.state is.standing) c.in_err-snapshot.ensures.memory)
+
+pub returns-clause-judged : goal.returns-clause-judged
+returns-clause-judged c = λ seen is.
+    let table = c.args.self.now in
+    let all : c.len-count.result ≡ length table.kept.commands = c.len-count.ensures.value in
+    seen_lawful c.args.kit.now table seen is c.args.command.now (has_room (kept_in table) c.len-count.result all c.if-count-ge-MOST_COMMANDS.false)
+    (c.in_ok-game.ensures.judged seen.state is.standing)
+
+pub returns-in_err-game-clause-plain : goal.returns-in_err-game-clause-plain
+returns-in_err-game-clause-plain c =
+    let p = err_from_is_err_and c.from_residual.result c.from_residual.ensures.1 in
+    let all : c.len-count.result ≡ length c.args.self.now.kept.commands = c.len-count.ensures.value in
+    rw p.1 (inr (has_room (kept_in c.args.self.now) c.len-count.result all c.if-count-ge-MOST_COMMANDS.false))
+
+pub returns-in_err-added-clause-plain : goal.returns-in_err-added-clause-plain
+returns-in_err-added-clause-plain c =
+    let p = err_from_is_err_and c.from_residual-in_err-added.result c.from_residual-in_err-added.ensures.1 in
+    let all : c.len-count.result ≡ length c.args.self.now.kept.commands = c.len-count.ensures.value in
+    rw p.1 (inr (has_room (kept_in c.args.self.now) c.len-count.result all c.if-count-ge-MOST_COMMANDS.false))
+
+pub returns-in_err-snapshot-clause-plain : goal.returns-in_err-snapshot-clause-plain
+returns-in_err-snapshot-clause-plain c =
+    let p = err_from_is_err_and c.from_residual-in_err-snapshot.result c.from_residual-in_err-snapshot.ensures.1 in
+    let all : c.len-count.result ≡ length c.args.self.now.kept.commands = c.len-count.ensures.value in
+    rw p.1 (inr (has_room (kept_in c.args.self.now) c.len-count.result all c.if-count-ge-MOST_COMMANDS.false))
+
+pub returns-then-count-ge-MOST_COMMANDS-clause-plain : goal.returns-then-count-ge-MOST_COMMANDS-clause-plain
+returns-then-count-ge-MOST_COMMANDS-clause-plain c =
+    let all : c.len-count.result ≡ length c.args.self.now.kept.commands = c.len-count.ensures.value in
+    inl (full_room (kept_in c.args.self.now) c.len-count.result all c.if-count-ge-MOST_COMMANDS.true)
+
+pub returns-clause-plain : goal.returns-clause-plain
+returns-clause-plain c =
+    let all : c.len-count.result ≡ length c.args.self.now.kept.commands = c.len-count.ensures.value in
+    has_room (kept_in c.args.self.now) c.len-count.result all c.if-count-ge-MOST_COMMANDS.false
