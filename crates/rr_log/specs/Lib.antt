@@ -4,6 +4,7 @@ pub mod Lent
 pub mod Carrying
 pub mod Calls
 pub mod Growing
+pub mod PuttingOff
 pub mod Roots
 pub mod Opening
 pub mod Formatting

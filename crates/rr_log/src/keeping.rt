@@ -8,6 +8,7 @@ ghost use Rattle.rr_images.specs.Layout.{IsSameRoot};
 ghost use Rattle.rr_images.specs.Steps.{with_line};
 ghost use Rattle.rr_log.specs.Fault.{CountsFault, IsWant, OnDeviceFault, ends_broken};
 ghost use Rattle.rr_log.specs.Lent.{AreLentOf, lent_of};
+ghost use Rattle.rr_log.specs.PuttingOff.{reason_of};
 ghost use Rattle.rr_reading.specs.Worlds.Spelling.{worlds};
 ghost use Rattle.rr_reading.specs.Worlds.World.{Snapshot, World};
 
@@ -16,23 +17,37 @@ use crate::{Fault, Log, TablesInWords};
 use rr_disk::Disk;
 use rr_reading::worlds::Rules;
 
+/// Why the first step of a checkpoint that was due was put off.
+#[derive(Clone, Copy, Debug, PartialEq, Eq)]
+pub enum PutOff {
+    /// Fewer pages are free than the checkpoint needs, or a number would be past the last.
+    FileFull,
+    /// A request for memory was refused.
+    OutOfMemory,
+}
+
 impl<D: Disk + Drop, R: Rules> Log<D, R> {
     ghost use Rattle.rr_log.specs.Calls.{IsFileFull, MayRefuse, MeetsFullFile, NumberBehind, first_left, layout_behind, tables_due, ticks_due, world_behind};
     ghost use Rattle.rr_log.specs.Carrying.{Carries, HaveSameTexts};
     ghost use Rattle.rr_log.specs.Growing.{Grows, TakesPages};
     ghost use Rattle.rr_log.specs.Log.{disk_of, free_of, is_broken, next_number, place_of, ticks_left, HasNoRoom, IsDue, IsTooLong};
+    ghost use Rattle.rr_log.specs.PuttingOff.{BeginsIfDue};
     ghost use Rattle.rr_log.specs.Roots.{KeepsRoots};
 
     /// Keeps a record. After `Ok` it is safe. Before it a tick is made, where a checkpoint is under way or is to begin;
     /// the tables are those of the world before the record, and the snapshots show games there. A line has a byte at
-    /// least.
+    /// least. If a checkpoint was due and its first tick was put off, the reason is returned.
     ///
     /// # Errors
     /// `OpenAgain`, with nothing changed; `DeviceFailed`, after which the record is on the disk or not, and the log is
     /// broken; `HalfFull` where the half in use has no room for the record, of which nothing is written then. What
     /// refuses the tick (`FileFull`, `OutOfMemory`) is put off, and told in place of `HalfFull` alone. `FileFull` also
     /// where the record's number would be 2^63 - 1 or more.
-    pub fn keep<T: TablesInWords>(&mut self, tables: &T, line: &[u8]) -> Result<(), Fault>
+    pub fn keep<T: TablesInWords>(
+        &mut self,
+        tables: &T,
+        line: &[u8],
+    ) -> Result<Option<PutOff>, Fault>
         requires { 0 < length line.now }
 
         // Whatever a stop leaves at any moment keeps the world from before the record, or the one behind it, under the
@@ -76,6 +91,9 @@ impl<D: Disk + Drop, R: Rules> Log<D, R> {
         ensures rests { ticks_left self.old ≡ 0 → (IsDue (place_of self.old) → ⊥) → ticks_left self.new ≡ 0 }
         ensures begins { is_broken self.new ≡ false → ticks_left self.old ≡ 0
             → (ticks_left self.new ≡ 0) ⊎ (ticks_left self.new ≡ first_left self.old (lent_of T.TablesInWords tables.now)) }
+        // With a record that is kept, a checkpoint begins if one was due and none was under way; or the reason is returned
+        // why its first tick was put off.
+        ensures begins_due { IfOk result (BeginsIfDue self.old self.new (lent_of T.TablesInWords tables.now)) }
         ensures resting { IsErrOf result Fault.HalfFull → ticks_left self.new ≡ 0 → (place_of self.new).begun ≡ None }
         ensures nothing { IfErr result (λ fault. is_broken self.new ≡ false → ticks_left self.old ≡ 0
             → ticks_left self.new ≡ 0 → disk_of self.new ≡ disk_of self.old) }
@@ -128,7 +146,7 @@ impl<D: Disk + Drop, R: Rules> Log<D, R> {
         }
         let full = self.tick_before(tables)?;
         self.append(line, full)?;
-        Ok(())
+        Ok(reason(full))
     }
 
     // Makes the tick that comes before a record, and gives what is told if the record then has no room.
@@ -172,6 +190,8 @@ impl<D: Disk + Drop, R: Rules> Log<D, R> {
             ⊎ (4 ≤ ticks_left self.new)) }
         ensures full_file { IfOk result (λ full. full ≡ Fault.FileFull
             → (ticks_left self.new ≡ 0) × IsFileFull self.new (lent_of T.TablesInWords tables.now)) }
+        ensures begins_due { IfOk result (λ full.
+            BeginsIfDue self.old self.new (lent_of T.TablesInWords tables.now) (reason_of full)) }
         ensures number { next_number self.new ≡ next_number self.old }
         ensures slots { (place_of self.new).half.next_slot ≤ (place_of self.old).half.next_slot }
         ensures broken { is_broken self.new ≡ ends_broken result }
@@ -264,5 +284,16 @@ fn put_off(fault: Fault) -> Result<Fault, Fault>
     match fault {
         Fault::DeviceFailed => Err(fault),
         Fault::HalfFull | Fault::FileFull | Fault::OpenAgain | Fault::OutOfMemory => Ok(fault),
+    }
+}
+
+// Why the tick was put off after which this is told if the record has no room.
+fn reason(full: Fault) -> Option<PutOff>
+    ensures { result ≡ reason_of full }
+{
+    match full {
+        Fault::FileFull => Some(PutOff::FileFull),
+        Fault::OutOfMemory => Some(PutOff::OutOfMemory),
+        Fault::DeviceFailed | Fault::HalfFull | Fault::OpenAgain => None,
     }
 }

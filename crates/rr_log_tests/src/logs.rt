@@ -6,7 +6,7 @@ use rr_checkpoint::Tick;
 use rr_checkpoint::plan::Transcript;
 use rr_disk::{Disk, FaultyDisk, MemoryDisk};
 use rr_log::opening::Opened;
-use rr_log::{Fault, Log};
+use rr_log::{Fault, Log, PutOff};
 use rr_reading::lending::Commands;
 use rr_reading::worlds::Worlds;
 use std::alloc::Global;
@@ -34,7 +34,7 @@ fn keep<D: Disk + Drop>(
     log: &mut Log<D, AnyLine>,
     tables: &OneTable,
     line: &[u8],
-) -> Result<(), Fault> {
+) -> Result<Option<PutOff>, Fault> {
     if line.is_empty() {
         return Err(Fault::OutOfMemory);
     }
@@ -307,6 +307,32 @@ fn a_file_without_free_pages_is_told_to_be_full(rt: HostRuntime) -> Result<(), F
     let mut log = full_log(rt.alloc(), 0)?;
     let told = behind_a_full_half(&mut log, &one_table(false)?)?;
     assert!(rt; told == (full, full, (255, 0, false)));
+    Ok(())
+}
+
+// Why the first tick of a checkpoint was put off with the records 128 and 129, and how many ticks are then left.
+fn put_off_from_128(
+    log: &mut Log<MemoryDisk, AnyLine>,
+    tables: &OneTable,
+) -> Result<(Option<PutOff>, Option<PutOff>, usize), Fault> {
+    keep_all(log, tables, 127)?;
+    let before = keep(log, tables, b"g1 buy a")?;
+    let due = keep(log, tables, b"g1 buy a")?;
+    Ok((before, due, log.ticks_left()))
+}
+
+// A checkpoint is due once 128 slots are used: it begins with record 129, or the reason is told.
+#[test]
+fn record_129_begins_a_checkpoint_or_tells_why_not(rt: HostRuntime) -> Result<(), Fail> {
+    let mut begun = new_log(rt.alloc())?;
+    let told = put_off_from_128(&mut begun, &one_table(false)?)?;
+    assert!(rt; told == (None, None, 5));
+    let mut wanting = new_log(rt.alloc())?;
+    let told = put_off_from_128(&mut wanting, &one_table(true)?)?;
+    assert!(rt; told == (None, Some(PutOff::OutOfMemory), 0));
+    let mut full = full_log(rt.alloc(), 1)?;
+    let told = put_off_from_128(&mut full, &one_table(false)?)?;
+    assert!(rt; told == (None, Some(PutOff::FileFull), 0));
     Ok(())
 }
 

@@ -1,5 +1,5 @@
 -- What a commit does, from what the tables and the keeping of its record did.
-use Rattle.std.proofs.Common.{◌≡◌, ◌⊎◌, ◌↔◌, ℕ, ◌+◌, ◌≤◌, Bool, false, true, List, [], ◌∷◌, None, Some, Result, Ok, Err, IsErrOf, IsTrue, Option, length, option_map, inl, inr, refl, sym, ap, subst, ◌∙◌, arith}
+use Rattle.std.proofs.Common.{◌≡◌, ◌⊎◌, ◌↔◌, ℕ, ◌+◌, ◌≤◌, Bool, false, true, List, [], ◌∷◌, None, Some, Result, Ok, Err, IsErrOf, IsTrue, OnErr, Option, length, option_map, inl, inr, refl, sym, ap, subst, ◌∙◌, arith}
 use Rattle.rr_disk.specs.Disk.{DiskState}
 use Rattle.rr_disk.specs.Moments.{EachImage, LeavesOnly}
 use Rattle.rr_images.specs.Calls.{TakesNewer}
@@ -14,6 +14,7 @@ use Rattle.rr_turns.proofs.JudgementLemmas.{lawful-first, map-is}
 use Rattle.rr_words.specs.Name.{IsTableName}
 use Rattle.rr_log.specs.declared.fault.Fault as log
 use Rattle.rr_log.specs.declared.fault.Fault.TheVariants as L
+use Rattle.rr_log.specs.declared.keeping.PutOff.{PutOff}
 use Rattle.rr_log.specs.declared.log.Log.{Log}
 use Rattle.rr_log.specs.Log.{is_broken, next_number}
 use Rattle.rr_log.specs.Log as file
@@ -46,8 +47,8 @@ use Rattle.rr_store.specs.Committing.{Commits, HoldsBehind, NumberBehind, Spares
 use Rattle.rr_store.specs.Fault.{CountsEnd, OnDeviceFault, of_log, of_rules, of_tables}
 use Rattle.rr_store.specs.Files.{AreTablesOf}
 use Rattle.rr_store.specs.Held.{Accepted, Again, Fails, Held, NoRoom, Refused, Takes, Wants, stamp_after, with_failure, with_tables}
-use Rattle.rr_store.specs.Holding.{Carries, GamesArePlayed, GamesHaveSnapshots, HasNoRoom, IsFull, IsUnchanged, disk_of, file_of, held_of, lent_of, number_of_next, replayed_of, ticks_left}
-use Rattle.rr_store.specs.Keeping.{GrowsInAll, Keeping, MakesAtMost, length_on}
+use Rattle.rr_store.specs.Holding.{Carries, GamesArePlayed, GamesHaveSnapshots, HasNoRoom, IsFull, IsUnchanged, disk_of, file_of, held_of, lent_of, number_of_next, put_off_of, replayed_of, ticks_left}
+use Rattle.rr_store.specs.Keeping.{GrowsInAll, Keeping, MakesAtMost, length_on, with_reason}
 use Rattle.rr_store.specs.Named.{KeepsNames, LendsNamed, NamesComing, NamesRoots, NamesSnapshots}
 use Rattle.rr_store.specs.Seeing.{Heeds, IsJudgedBy, IsSeenAt, IsToldPlainly, MayRefuseBy, Seen, judgement_at, plain_verdict}
 use Rattle.rr_store.specs.World.{World, for_table, judgement_in, world_after}
@@ -105,7 +106,7 @@ ends_same texts kit tables stamp name c new F.OutOfMemory other keeps = keeps
 ends_same texts kit tables stamp name c new _ other keeps = refl
 
 abbrev Kept : Type 0
-Kept = Result (Unit {0}) log.Fault
+Kept = Result (Option PutOff) log.Fault
 
 module _ {D : Type 0} (Honest Works : D → Type 0) (state : D → DiskState) (past : D → List DiskState) (faults writes syncs : D → ℕ)
     (old new : Store D) (stamp : ℕ) (name : List ℕ) (c : Request Command) (counted_on : replayed_of new ≡ replayed_of old) where
@@ -159,10 +160,13 @@ module _ {D : Type 0} (Honest Works : D → Type 0) (state : D → DiskState) (p
   abbrev KeptBy : Log D TableRules → Kept → Log D TableRules → Type 0
   KeptBy before kept after = Keeping Honest Works state past faults writes syncs before (lent_of old) bytes_of kept after
 
+  abbrev StaysPutOff : Type 0
+  StaysPutOff = put_off_of new ≡ put_off_of old
+
   -- all is as it was
   spared : (fault : Fault) → (fault ≡ F.DeviceFailed → ⊥) → (fault ≡ F.FileFull → ⊥) → IsErrOf {T = ℕ} (Err fault) F.OpenAgain ↔ IsTrue (held_of old).broken → PlayedOn → ShownOn
-      → Told (Err fault) → JudgedOn (Err fault) → Plain (Err fault) → IsUnchanged old new → Done (Err fault)
-  spared fault other room again played_on shown_on takes judged plain same =
+      → Told (Err fault) → JudgedOn (Err fault) → Plain (Err fault) → StaysPutOff → IsUnchanged old new → Done (Err fault)
+  spared fault other room again played_on shown_on takes judged plain put_off same =
       record {
         takes = takes;
         played = played_on;
@@ -213,6 +217,8 @@ module _ {D : Type 0} (Honest Works : D → Type 0) (state : D → DiskState) (p
         most_syncs = within syncs;
         comes_on = tt;
         makes_room = tt;
+        begins_due = tt;
+        put_off = put_off;
         grows = λ room h texts s. stays_long (length_on state) (file_of old) (file_of new) same_length;
         pages = λ room. pages_still (file_of old) (file_of new) (ap (λ (f : Log D TableRules). file.free_of f) same.same_file) (λ one none whole.
             let left : ticks_left new ≡ ticks_left old = ap (λ (f : Log D TableRules). file.ticks_left f) same.same_file in omega (arith, one, none, left));
@@ -248,6 +254,7 @@ module _ {D : Type 0} (Honest Works : D → Type 0) (state : D → DiskState) (p
   commits_again still broken =
       spared F.OpenAgain (λ is. absurd (cc is)) (λ is. absurd (cc is)) (λ is. broken, λ is. refl) (λ played. subst GamesArePlayed (sym still) played) (λ played had. subst GamesHaveSnapshots (sym still) had)
       (λ played. Again broken (ap held_of still)) (λ seen is. tt) tt
+      (ap put_off_of still)
       (record { same_file = ap file_of still; same_held = ap held_of still })
 
   module _ (form : IsTableName name × IsRequest c) (was : is_broken (file_of old) ≡ false) (played_on : PlayedOn) (shown_on : ShownOn) where
@@ -312,7 +319,7 @@ module _ {D : Type 0} (Honest Works : D → Type 0) (state : D → DiskState) (p
 
     -- the request was taken
     taken : (n : ℕ) → Told (Ok n) → (Played → Lawful) → (Played → held_of new ≡ with_tables (held_of old) behind)
-        → HoldsBehind (held_of old) name c (Ok n) (held_of new) → LawfulSeen → Passes_plainly → KeptBy (file_of old) (Ok tt) (file_of new) → Done (Ok n)
+        → HoldsBehind (held_of old) name c (Ok n) (held_of new) → LawfulSeen → Passes_plainly → KeptBy (file_of old) (Ok (put_off_of new)) (file_of new) → Done (Ok n)
     taken n takes lawful held_is holds lawful_seen plain k =
         record {
           takes = takes;
@@ -323,10 +330,10 @@ module _ {D : Type 0} (Honest Works : D → Type 0) (state : D → DiskState) (p
           holds = holds;
           again = not_again (Ok n) (λ is. cc is);
           honest = k.honest;
-          allowed = λ h texts s. passed_by (Ok tt) (Ok n) lawful k h texts s
+          allowed = λ h texts s. passed_by (Ok (put_off_of new)) (Ok n) lawful k h texts s
               (λ moments. (lawful_in texts s (lawful s.played), subst (λ (w : World). Keeps (state (disk_of new)) texts w) (ap (λ (x : Held). x.tables) (held_is s.played)) (carried_keeps state new texts (on h texts s))));
-          keeps = kept_by (Ok tt) lawful k;
-          names_stops = named_by (Ok tt) lawful k;
+          keeps = kept_by (Ok (put_off_of new)) lawful k;
+          names_stops = named_by (Ok (put_off_of new)) lawful k;
           carries = λ h whole texts s. on h texts s;
           renews = λ whole one none h texts s.
               subst (λ (x : Held). EachImage (state (disk_of new)) (TakesNewer table_files (layout_behind (Ok n) s.file.carried.layout bytes_of (in_words texts x.tables)) (in_words texts x.tables))) (sym (held_is s.played))
@@ -351,8 +358,10 @@ module _ {D : Type 0} (Honest Works : D → Type 0) (state : D → DiskState) (p
           most_syncs = k.most_syncs;
           comes_on = k.comes_on;
           makes_room = k.makes_room;
-          grows = grown_by (Ok tt) k;
-          grows_in_all = grown_in_all (Ok tt) lawful k;
+          begins_due = k.begins_due;
+          put_off = tt;
+          grows = grown_by (Ok (put_off_of new)) k;
+          grows_in_all = grown_in_all (Ok (put_off_of new)) lawful k;
           pages = k.pages;
           replayed = counted_on;
           full = λ is. absurd (cc is);
@@ -374,8 +383,8 @@ module _ {D : Type 0} (Honest Works : D → Type 0) (state : D → DiskState) (p
             }
 
     -- the device failed
-    failed : Told (Err F.DeviceFailed) → (Played → Lawful) → held_of new ≡ with_failure (held_of old) → LawfulSeen → Passes_plainly → KeptBy (file_of old) (Err L.DeviceFailed) (file_of new) → Done (Err F.DeviceFailed)
-    failed takes lawful held_is lawful_seen plain k =
+    failed : Told (Err F.DeviceFailed) → (Played → Lawful) → held_of new ≡ with_failure (held_of old) → LawfulSeen → Passes_plainly → KeptBy (file_of old) (Err L.DeviceFailed) (file_of new) → StaysPutOff → Done (Err F.DeviceFailed)
+    failed takes lawful held_is lawful_seen plain k put_off =
         record {
           takes = takes;
           played = played_on;
@@ -405,6 +414,8 @@ module _ {D : Type 0} (Honest Works : D → Type 0) (state : D → DiskState) (p
           most_syncs = k.most_syncs;
           comes_on = tt;
           makes_room = tt;
+          begins_due = tt;
+          put_off = put_off;
           grows = grown_by (Err L.DeviceFailed) k;
           grows_in_all = grown_in_all (Err L.DeviceFailed) lawful k;
           pages = k.pages;
@@ -448,8 +459,8 @@ module _ {D : Type 0} (Honest Works : D → Type 0) (state : D → DiskState) (p
       keeps_on : Honest (disk_of new) → (texts : KitTexts) → Carries state old texts → Keeps (state (disk_of new)) texts tables_now
       keeps_on h texts s = subst (λ (w : World). Keeps (state (disk_of new)) texts w) (ap (λ (x : Held). x.tables) held_is) (carried_keeps state new texts (goes_on h texts s))
 
-    file_full : Told (Err F.FileFull) → (Played → Lawful) → held_of new ≡ held_of old → LawfulSeen → Passes_plainly → KeptBy (file_of old) (Err L.FileFull) (file_of new) → Done (Err F.FileFull)
-    file_full takes lawful held_is lawful_seen plain k =
+    file_full : Told (Err F.FileFull) → (Played → Lawful) → held_of new ≡ held_of old → LawfulSeen → Passes_plainly → KeptBy (file_of old) (Err L.FileFull) (file_of new) → StaysPutOff → Done (Err F.FileFull)
+    file_full takes lawful held_is lawful_seen plain k put_off =
         record {
           takes = takes;
           played = played_on;
@@ -479,6 +490,8 @@ module _ {D : Type 0} (Honest Works : D → Type 0) (state : D → DiskState) (p
           most_syncs = k.most_syncs;
           comes_on = tt;
           makes_room = tt;
+          begins_due = tt;
+          put_off = put_off;
           grows = grown_by (Err L.FileFull) k;
           grows_in_all = grown_in_all (Err L.FileFull) lawful k;
           pages = k.pages;
@@ -487,8 +500,8 @@ module _ {D : Type 0} (Honest Works : D → Type 0) (state : D → DiskState) (p
           device = tt;
         }
 
-    no_memory : Told (Err F.OutOfMemory) → (Played → Lawful) → held_of new ≡ held_of old → LawfulSeen → Passes_plainly → KeptBy (file_of old) (Err L.OutOfMemory) (file_of new) → Done (Err F.OutOfMemory)
-    no_memory takes lawful held_is lawful_seen plain k =
+    no_memory : Told (Err F.OutOfMemory) → (Played → Lawful) → held_of new ≡ held_of old → LawfulSeen → Passes_plainly → KeptBy (file_of old) (Err L.OutOfMemory) (file_of new) → StaysPutOff → Done (Err F.OutOfMemory)
+    no_memory takes lawful held_is lawful_seen plain k put_off =
         record {
           takes = takes;
           played = played_on;
@@ -518,6 +531,8 @@ module _ {D : Type 0} (Honest Works : D → Type 0) (state : D → DiskState) (p
           most_syncs = k.most_syncs;
           comes_on = tt;
           makes_room = tt;
+          begins_due = tt;
+          put_off = put_off;
           grows = grown_by (Err L.OutOfMemory) k;
           grows_in_all = grown_in_all (Err L.OutOfMemory) lawful k;
           pages = k.pages;
@@ -542,7 +557,7 @@ module _ {D : Type 0} (Honest Works : D → Type 0) (state : D → DiskState) (p
 
     module _ (kit_is : new.tables.kit ≡ old.tables.kit) where
       pub commits : (n : ℕ) → (Played → IsVerdict (ruled.judgement_in kit_now tables_now stamp name c) None)
-          → SeenBy → ruled_plainly ≡ None → (Played → world_of new.tables ≡ behind) → n ≡ stamp_after kit_now tables_now name c → KeptBy (file_of old) (Ok tt) (file_of new) → Done (Ok n)
+          → SeenBy → ruled_plainly ≡ None → (Played → world_of new.tables ≡ behind) → n ≡ stamp_after kit_now tables_now name c → KeptBy (file_of old) (Ok (put_off_of new)) (file_of new) → Done (Ok n)
       commits n by_rules seen plain world counted k = taken n takes lawful held_is (kit_is, k.broken ∙ sym was, counted) (lawful_by seen) (passes plain) k
         where
           lawful : Played → Lawful
@@ -562,14 +577,15 @@ module _ {D : Type 0} (Honest Works : D → Type 0) (state : D → DiskState) (p
 
         by_rule : (fault : rules.Fault) → (Played → MayFind (ruled.judgement_in kit_now tables_now stamp name c) R.OutOfMemory fault)
             → ((seen : Option Seen) → IsSeenAt old name seen → MayRefuseBy (world_judgement_at kit_now seen (length tables_now) stamp c) R.OutOfMemory c fault)
-            → Heeds ruled_plainly fault → file_of new ≡ file_of old → Done (Err (of_rules fault))
-        by_rule fault found seen plain still =
+            → Heeds ruled_plainly fault → file_of new ≡ file_of old → StaysPutOff → Done (Err (of_rules fault))
+        by_rule fault found seen plain still put_off =
             let same = held_is_if (is_broken (file_of old)) (ap (λ (f : Log D TableRules). is_broken f) still) in
             spared (of_rules fault) (no_failure fault) (no_full fault) (not_again (Err (of_rules fault)) (λ is. no_again fault (let one : of_rules fault ≡ F.OpenAgain = cc is in one))) played_on shown_on
             (λ played. refused_by (found played) same)
             (λ other is. judged_so (judgement_at kit_now other (length tables_now) stamp c) c fault
             (refuses_map of_rules (world_judgement_at kit_now other (length tables_now) stamp c) R.OutOfMemory c fault (seen other is)))
             (plain_so (plain_verdict tables_now stamp name c) fault (heeds_map of_rules ruled_plainly fault plain))
+            put_off
             (record { same_file = still; same_held = same })
           where
             refused_by : MayFind (ruled.judgement_in kit_now tables_now stamp name c) R.OutOfMemory fault → held_of new ≡ held_of old → Takes (held_of old) stamp name c (held_of new) (Err (of_rules fault))
@@ -577,26 +593,27 @@ module _ {D : Type 0} (Honest Works : D → Type 0) (state : D → DiskState) (p
             refused_by (inr wants) same =
                 subst (λ (f : rules.Fault). Takes (held_of old) stamp name c (held_of new) (Err (of_rules f))) (sym wants.1) (Wants was (ap (option_map of_rules) wants.0) same)
 
-        by_file : (fault : log.Fault) → (Played → IsVerdict (ruled.judgement_in kit_now tables_now stamp name c) None) → SeenBy → ruled_plainly ≡ None → KeptBy (file_of old) (Err fault) (file_of new) → Done (Err (of_log fault))
-        by_file L.DeviceFailed by_rules seen plain k =
+        by_file : (fault : log.Fault) → (Played → IsVerdict (ruled.judgement_in kit_now tables_now stamp name c) None) → SeenBy → ruled_plainly ≡ None → KeptBy (file_of old) (Err fault) (file_of new) → StaysPutOff → Done (Err (of_log fault))
+        by_file L.DeviceFailed by_rules seen plain k put_off =
             let lawful : Played → Lawful = λ played. map-is of_rules (ruled.judgement_in kit_now tables_now stamp name c) None (by_rules played) in
-            failed (λ played. Fails was (lawful played) (held_is_if true k.broken)) lawful (held_is_if true k.broken) (lawful_by seen) (passes plain) k
-        by_file L.HalfFull by_rules seen plain k = absurd (k.room refl)
-        by_file L.FileFull by_rules seen plain k =
-            let lawful : Played → Lawful = λ played. map-is of_rules (ruled.judgement_in kit_now tables_now stamp name c) None (by_rules played) in
-            let same = held_is_if (is_broken (file_of old)) (k.broken ∙ sym was) in
-            file_full (λ played. NoRoom was (lawful played) same) lawful same (lawful_by seen) (passes plain) k
-        by_file L.OpenAgain by_rules seen plain k = let both : true ≡ false = sym (k.again.0 refl) ∙ was in absurd (cc both)
-        by_file L.OutOfMemory by_rules seen plain k =
+            failed (λ played. Fails was (lawful played) (held_is_if true k.broken)) lawful (held_is_if true k.broken) (lawful_by seen) (passes plain) k put_off
+        by_file L.HalfFull by_rules seen plain k put_off = absurd (k.room refl)
+        by_file L.FileFull by_rules seen plain k put_off =
             let lawful : Played → Lawful = λ played. map-is of_rules (ruled.judgement_in kit_now tables_now stamp name c) None (by_rules played) in
             let same = held_is_if (is_broken (file_of old)) (k.broken ∙ sym was) in
-            no_memory (λ played. Wants was (lawful-first (judgement_in kit_now tables_now stamp name c) (lawful played)) same) lawful same (lawful_by seen) (passes plain) k
+            file_full (λ played. NoRoom was (lawful played) same) lawful same (lawful_by seen) (passes plain) k put_off
+        by_file L.OpenAgain by_rules seen plain k put_off = let both : true ≡ false = sym (k.again.0 refl) ∙ was in absurd (cc both)
+        by_file L.OutOfMemory by_rules seen plain k put_off =
+            let lawful : Played → Lawful = λ played. map-is of_rules (ruled.judgement_in kit_now tables_now stamp name c) None (by_rules played) in
+            let same = held_is_if (is_broken (file_of old)) (k.broken ∙ sym was) in
+            no_memory (λ played. Wants was (lawful-first (judgement_in kit_now tables_now stamp name c) (lawful played)) same) lawful same (lawful_by seen) (passes plain) k put_off
 
         pub commits_not : (fault : table.Fault) → (Played → MayRefuse (ruled.judgement_in kit_now tables_now stamp name c) fault)
             → ((seen : Option Seen) → IsSeenAt old name seen → MayRefuseSeen (world_judgement_at kit_now seen (length tables_now) stamp c) c fault)
             → HeedsIn ruled_plainly fault
-            → Passed {A = ℕ} (λ (before : FileJournal D) (lent : Lent) (bytes : List ℕ) (kept : Kept) (after : FileJournal D). Keeping Honest Works state past faults writes syncs before.file lent bytes kept after.file)
+            → Passed {A = ℕ} (λ (before : FileJournal D) (lent : Lent) (bytes : List ℕ) (kept : Result (Unit {0}) log.Fault) (after : FileJournal D).
+            Keeping Honest Works state past faults writes syncs before.file lent bytes (with_reason kept after.put_off) after.file × OnErr kept (after.put_off ≡ before.put_off))
             old.journal (lent_of old) bytes_of new.journal (Err fault)
             → Done (Err (of_tables fault))
-        commits_not (Rules fault) verdict seen plain passed = by_rule fault verdict seen plain (ap (λ (j : FileJournal D). j.file) passed)
-        commits_not (File fault) verdict seen plain passed = by_file fault verdict seen plain passed
+        commits_not (Rules fault) verdict seen plain passed = by_rule fault verdict seen plain (ap (λ (j : FileJournal D). j.file) passed) (ap (λ (j : FileJournal D). j.put_off) passed)
+        commits_not (File fault) verdict seen plain passed = by_file fault verdict seen plain passed.0 passed.1

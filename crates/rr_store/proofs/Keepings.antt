@@ -1,5 +1,5 @@
 -- What keeping a record does, from what the open file does.
-use Rattle.std.proofs.Common.{◌≡◌, ◌⊎◌, ◌↔◌, ℕ, ◌+◌, ◌^◌, ◌<◌, ◌≤◌, Bool, true, false, List, length, Option, None, Some, Result, Ok, Err, IfErr, IsErrOf, IsTrue, OnErr, OnOk, inl, inr, refl, sym, ap, subst, ◌∙◌, arith}
+use Rattle.std.proofs.Common.{◌≡◌, ◌⊎◌, ◌↔◌, ℕ, ◌+◌, ◌^◌, ◌<◌, ◌≤◌, Bool, true, false, List, length, Option, None, Some, Result, Ok, Err, IfErr, IfOk, IsErrOf, IsTrue, OnErr, OnOk, inl, inr, refl, sym, ap, subst, ◌∙◌, arith}
 use Rattle.std.proofs.lemmas.Bool.{cases_eq, cases_lt}
 use Rattle.rr_checkpoint.specs.Calls.{IsRootAt, LeavesEither, LeavesKept}
 use Rattle.rr_checkpoint.specs.Growing.{AreReclaimed, GrowsWhereFull}
@@ -16,6 +16,8 @@ use Rattle.rr_pages.specs.declared.journal.half.Half.{Half}
 use Rattle.rr_pages.specs.Journal.Layout.{HasRoom}
 use Rattle.rr_log.specs.declared.fault.Fault.{Fault}
 use Rattle.rr_log.specs.declared.fault.Fault.TheVariants as F
+use Rattle.rr_log.specs.declared.keeping.PutOff.{PutOff}
+use Rattle.rr_log.specs.declared.keeping.PutOff.TheVariants as P
 use Rattle.rr_log.specs.declared.log.Log.{Log}
 use Rattle.rr_checkpoint.specs.Checkpoint.{left_behind_first}
 use Rattle.rr_checkpoint.specs.declared.plan.standing.StandingSnapshot.{StandingSnapshot}
@@ -24,6 +26,7 @@ use Rattle.rr_log.specs.Carrying.{Carries, HaveSameTexts}
 use Rattle.rr_log.specs.Fault.{CountsFault, IsWant, OnDeviceFault, ends_broken}
 use Rattle.rr_log.specs.Log.{HasNoRoom, IsDue, IsPastLast, IsTooLong, disk_of, free_of, is_broken, next_number, place_of, ticks_left}
 use Rattle.rr_log.specs.Growing.{Grows, TakesPages}
+use Rattle.rr_log.specs.PuttingOff.{BeginsIfDue, BeginsOr}
 use Rattle.rr_log.specs.Roots.{IsRootWithin, KeepsRoots}
 use Rattle.rr_log.proofs.Carried.{device_more}
 use Rattle.rr_log.proofs.Roots.{within_step}
@@ -39,7 +42,10 @@ use Rattle.rr_store.proofs.KeptNames.{keeps_names, named_within, names_on, names
 use Rattle.rr_store.specs.Keeping.{AreComing, ComesOn, GrowsInAll, IsFull, Keeping, MakesAtMost, length_on, told_of}
 
 abbrev Kept : Type 0
-Kept = Result (Unit {0}) Fault
+Kept = Result (Option PutOff) Fault
+
+abbrev Ended : Type 0
+Ended = Result (Unit {0}) Fault
 
 -- a record leads to a world of the same texts
 pub same_texts : (bytes : List ℕ) (before behind : words.World) → Takes bytes before behind → HaveSameTexts before behind
@@ -52,7 +58,7 @@ same_texts bytes before behind takes =
     }
 
 -- the next record has the same number
-number_same : (fault : Fault) (old new : ℕ) → new ≡ old → NumberBehind {T = Unit {0}} (Err fault) old new
+number_same : (fault : Fault) (old new : ℕ) → new ≡ old → NumberBehind {T = Option PutOff} (Err fault) old new
 number_same F.DeviceFailed old new same = tt
 number_same F.HalfFull old new same = same
 number_same F.FileFull old new same = same
@@ -60,7 +66,7 @@ number_same F.OpenAgain old new same = same
 number_same F.OutOfMemory old new same = same
 
 -- what is so where the device failed is so where that is told
-device_told : {P Q : Type 0} (fault : Fault) → (P → Q) → OnDeviceFault {T = Unit {0}} (Err fault) P → OnDeviceFault {T = Unit {0}} (Err (told_of fault)) Q
+device_told : {P Q : Type 0} (fault : Fault) → (P → Q) → OnDeviceFault {T = Option PutOff} (Err fault) P → OnDeviceFault {T = Option PutOff} (Err (told_of fault)) Q
 device_told F.DeviceFailed so given = so given
 device_told F.HalfFull so given = tt
 device_told F.FileFull so given = tt
@@ -190,6 +196,7 @@ module _ {D : Type 0} (Honest Works : D → Type 0) (state : D → DiskState) (p
     pub refused : IfErr result (MayRefuse (place_of new) (length bytes))
     pub full_half : IsErrOf result F.HalfFull → HasNoRoom (place_of old) (length bytes)
     pub makes_room : OnOk result (HasNoRoom (place_of old) (length bytes) → 4 ≤ ticks_left new)
+    pub begins_due : IfOk result (BeginsIfDue old new tables)
     pub full_file : IsErrOf result F.FileFull → MeetsFullFile new tables (length bytes)
     pub long : IsErrOf result F.HalfFull → ticks_left old ≡ 0 → (place_of old).begun ≡ None → IsTooLong (length bytes)
     pub resting : IsErrOf result F.HalfFull → ticks_left new ≡ 0 → (place_of new).begun ≡ None
@@ -212,7 +219,7 @@ module _ {D : Type 0} (Honest Works : D → Type 0) (state : D → DiskState) (p
     pub works : Works (disk_of new) → Works (disk_of old)
 
   -- what a checkpoint does
-  pub record Made (old : Logs) (result : Kept) (new : Logs) : Type 0 where
+  pub record Made (old : Logs) (result : Ended) (new : Logs) : Type 0 where
     pub stops : Honest (disk_of new) → (world : words.World) → AreLentOf table_rules world tables → (carries : Carries table_rules old (state (disk_of old)) world)
         → LeavesKept table_files (IsRootWithin old (tables_due old.base tables).snapshots carries.carried.layout carries.carried.holding) (past (disk_of old)) (state (disk_of old)) (past (disk_of new)) (state (disk_of new)) world
     pub carries : Honest (disk_of new) → is_broken new ≡ false → (world : words.World) → AreLentOf table_rules world tables
@@ -267,12 +274,12 @@ module _ {D : Type 0} (Honest Works : D → Type 0) (state : D → DiskState) (p
       (λ layout is. named_within kit state old new before before tables named roots layout (within_step layout is))
       (t.stops h before behind takes (same_texts bytes before behind takes) lent roots.names.carries)
 
-  made_kept : (old : Logs) (result : Kept) (new : Logs) → Made old result new → Honest (disk_of new) → (before behind : words.World) → AreLentOf table_rules before tables
+  made_kept : (old : Logs) (result : Ended) (new : Logs) → Made old result new → Honest (disk_of new) → (before behind : words.World) → AreLentOf table_rules before tables
       → Carries table_rules old (state (disk_of old)) before → LeavesKeeping old new before behind
   made_kept old result new m h before behind lent carries =
       weaker (m.stops h before lent carries) (λ image. Keeps table_files image before ⊎ Keeps table_files image behind) (λ image left. inl (record { layout = left.layout; kept = left.kept }))
 
-  made_named : (old : Logs) (result : Kept) (new : Logs) → Made old result new → Honest (disk_of new) → (kit : Kit) (before behind : words.World) → AreLentOf table_rules before tables
+  made_named : (old : Logs) (result : Ended) (new : Logs) → Made old result new → Honest (disk_of new) → (kit : Kit) (before behind : words.World) → AreLentOf table_rules before tables
       → AreTheirSnapshots kit before tables.snapshots → NamesRoots kit old (state (disk_of old)) before → LeavesNamed kit old new before behind
   made_named old result new m h kit before behind lent named roots =
       weaker (m.stops h before lent roots.names.carries) (λ image. KeepsUnder table_files (IsNamed kit) image before ⊎ KeepsUnder table_files (IsNamed kit) image behind)
@@ -354,6 +361,7 @@ module _ {D : Type 0} (Honest Works : D → Type 0) (state : D → DiskState) (p
         most_syncs = few_at_most syncs log log (omega arith);
         comes_on = tt;
         makes_room = tt;
+        begins_due = tt;
         grows = λ room h world lent carries. stays_long (length_on state) log log refl;
         pages = λ room. pages_still log log refl (λ one none whole. omega (arith, one, none));
         grows_in_all = λ h before behind takes lent carries. grown_not state log log (omega arith);
@@ -387,6 +395,7 @@ module _ {D : Type 0} (Honest Works : D → Type 0) (state : D → DiskState) (p
         most_syncs = few_at_most syncs log log (omega arith);
         comes_on = tt;
         makes_room = tt;
+        begins_due = tt;
         grows = λ room h world lent carries. stays_long (length_on state) log log refl;
         pages = λ room. pages_still log log refl (λ one none whole. omega (arith, one, none));
         grows_in_all = λ h before behind takes lent carries. grown_not state log log (omega arith);
@@ -435,6 +444,7 @@ module _ {D : Type 0} (Honest Works : D → Type 0) (state : D → DiskState) (p
         most_syncs = few_at_most syncs old new t.few_syncs;
         comes_on = comes_on old new result t;
         makes_room = t.makes_room;
+        begins_due = t.begins_due;
         grows = λ room. t.grows;
         pages = λ room. t.pages;
         grows_in_all = λ h before behind takes lent carries. grown_once state old new (t.grows h before lent carries) t.pages;
@@ -504,11 +514,11 @@ module _ {D : Type 0} (Honest Works : D → Type 0) (state : D → DiskState) (p
           untouched = λ is. absurd (same_fault is);
           broken = m.broken;
           full = λ is. absurd ((told fault new some m).1 (let same : fault ≡ F.FileFull = cc is in same));
-          room = m.room;
+          room = λ is. m.room (let same : fault ≡ F.HalfFull = cc is in ap (λ (f : Fault). Err f) same);
           memory = λ is. let same : fault ≡ F.OutOfMemory = cc is in let none = m.first (inr same) in absurd (omega (arith, some, none));
-          counts = subst (λ (n : ℕ). CountsFault {T = Unit {0}} n (faults (disk_of new)) (Err fault)) t.fault m.fault;
+          counts = subst (λ (n : ℕ). CountsFault {T = Option PutOff} n (faults (disk_of new)) (Err fault)) t.fault m.fault;
           works = λ w. t.works (m.works w);
-          device = device_more {T = Unit {0}} (Err fault) (λ device h before behind takes lent carries. device h before lent (carried (m.honest h) before behind takes lent carries)) m.device;
+          device = device_more {T = Option PutOff} (Err fault) (λ device h before behind takes lent carries. device h before lent (carried (m.honest h) before behind takes lent carries)) m.device;
           few_writes = λ room. has_none room;
           few_syncs = λ room. has_none room;
           own_writes = λ room rests. has_none room;
@@ -517,6 +527,7 @@ module _ {D : Type 0} (Honest Works : D → Type 0) (state : D → DiskState) (p
           most_syncs = in_all syncs new new (t.tick_syncs refl) m.all_syncs (omega arith);
           comes_on = tt;
           makes_room = tt;
+          begins_due = tt;
           grows = λ room. has_none room;
           pages = λ room. has_none room;
           grows_in_all = λ h before behind takes lent carries.
@@ -524,7 +535,7 @@ module _ {D : Type 0} (Honest Works : D → Type 0) (state : D → DiskState) (p
               (m.grows_so_far h before lent (carried (m.honest h) before behind takes lent carries));
         }
       where
-        same_fault : IsErrOf {T = Unit {0}} (Err fault) F.OpenAgain → ⊥
+        same_fault : IsErrOf {T = Option PutOff} (Err fault) F.OpenAgain → ⊥
         same_fault is = (told fault new some m).0 (let same : fault ≡ F.OpenAgain = cc is in same)
 
     module _ (made new : Logs) (m : Made mid (Ok tt) made) where
@@ -581,8 +592,21 @@ module _ {D : Type 0} (Honest Works : D → Type 0) (state : D → DiskState) (p
       same_count = m.fault ∙ t.fault
 
       -- a record that is kept then stands behind the first step of another checkpoint
-      begins_another : Tried made (Ok tt) new → 4 ≤ ticks_left new
-      begins_another again = again.makes_room (λ room. t.refused (subst (λ (half : Half). HasRoom half.next_slot (length bytes)) m.half room))
+      begins_another : (put_off : Option PutOff) → Tried made (Ok put_off) new → 4 ≤ ticks_left new
+      begins_another put_off again = again.makes_room (λ room. t.refused (subst (λ (half : Half). HasRoom half.next_slot (length bytes)) m.half room))
+
+      -- so nothing was put off
+      begun_at_last : (put_off : Option PutOff) → BeginsIfDue made new tables put_off → 4 ≤ ticks_left new → BeginsIfDue old new tables put_off
+      begun_at_last None begins some = record { due = λ _ _. omega (arith, some); only = λ is. absurd (cc is) }
+      begun_at_last (Some P.FileFull) begins some =
+          let due = begins.only refl in
+          let put_off = begins.due due.0 due.1 in
+          let none = put_off.0 in
+          absurd (omega (arith, none, some))
+      begun_at_last (Some P.OutOfMemory) begins some =
+          let due = begins.only refl in
+          let none = begins.due due.0 due.1 in
+          absurd (omega (arith, none, some))
 
       -- and where it is refused behind the last tick the disk is as that left it
       renews_still : (fault : Fault) → Tried made (Err fault) new → is_broken new ≡ false → ticks_left old ≡ 1 → ticks_left new ≡ 0 → Honest (disk_of new) → (before behind : words.World) → Takes bytes before behind
@@ -604,16 +628,16 @@ module _ {D : Type 0} (Honest Works : D → Type 0) (state : D → DiskState) (p
           rests_named kit state made new before before tables (again.roots whole h before behind takes texts lent) m.left none ((m.names then before lent kit).roots first)
 
       -- a second attempt
-      pub kept_twice : Tried made (Ok tt) new → Done old (Ok tt) new
-      kept_twice again =
+      pub kept_twice : (put_off : Option PutOff) → Tried made (Ok put_off) new → Done old (Ok put_off) new
+      kept_twice put_off again =
           record {
             honest = λ h. t.honest (m.honest (again.honest h));
-            stops = stops_by (Ok tt) again;
-            carries = carries_by (Ok tt) again;
-            renews = λ whole one none h before behind takes carries. let some = begins_another again in absurd (omega (arith, none, some));
-            names = names_by (Ok tt) again;
-            names_stops = names_stops_by (Ok tt) again;
-            renews_names = λ h whole one none kit before behind takes lent names. let some = begins_another again in absurd (omega (arith, none, some));
+            stops = stops_by (Ok put_off) again;
+            carries = carries_by (Ok put_off) again;
+            renews = λ whole one none h before behind takes carries. let some = begins_another put_off again in absurd (omega (arith, none, some));
+            names = names_by (Ok put_off) again;
+            names_stops = names_stops_by (Ok put_off) again;
+            renews_names = λ h whole one none kit before behind takes lent names. let some = begins_another put_off again in absurd (omega (arith, none, some));
             number = subst (λ (n : ℕ). next_number new ≡ n + 1) same_number again.number;
             again = (λ is. absurd (cc is), λ broken. never_again broken);
             untouched = λ is. absurd (cc is);
@@ -631,18 +655,19 @@ module _ {D : Type 0} (Honest Works : D → Type 0) (state : D → DiskState) (p
             most_writes = in_all writes made new (t.tick_writes refl) m.all_writes again.few_writes;
             most_syncs = in_all syncs made new (t.tick_syncs refl) m.all_syncs again.few_syncs;
             comes_on = λ room. has_none room;
-            makes_room = λ none. begins_another again;
+            makes_room = λ none. begins_another put_off again;
+            begins_due = begun_at_last put_off again.begins_due (begins_another put_off again);
             grows = λ room. has_none room;
             pages = λ room. has_none room;
-            grows_in_all = grows_by (Ok tt) again;
+            grows_in_all = grows_by (Ok put_off) again;
           }
 
       -- one that isn't kept either
       refused_by : (fault : Fault) → Tried made (Err fault) new
           → ((told_of fault ≡ F.OpenAgain) → ⊥) × ((told_of fault ≡ F.HalfFull) → ⊥) × (told_of fault ≡ F.FileFull → IsTooLong (length bytes) ⊎ MeetsFullFile new tables (length bytes))
-          × (ends_broken {T = Unit {0}} (Err fault) ≡ ends_broken {T = Unit {0}} (Err (told_of fault)))
-          × NumberBehind {T = Unit {0}} (Err (told_of fault)) (next_number made) (next_number new)
-          × CountsFault {T = Unit {0}} (faults (disk_of made)) (faults (disk_of new)) (Err (told_of fault))
+          × (ends_broken {T = Option PutOff} (Err fault) ≡ ends_broken {T = Option PutOff} (Err (told_of fault)))
+          × NumberBehind {T = Option PutOff} (Err (told_of fault)) (next_number made) (next_number new)
+          × CountsFault {T = Option PutOff} (faults (disk_of made)) (faults (disk_of new)) (Err (told_of fault))
       refused_by F.DeviceFailed again = (λ is. cc is, λ is. cc is, λ is. absurd (cc is), refl, again.number, again.fault)
       refused_by F.HalfFull again = (λ is. cc is, λ is. cc is, λ is. inl (again.long refl m.left m.rests), refl, again.number, again.fault)
       refused_by F.FileFull again = (λ is. cc is, λ is. cc is, λ is. inr (again.full_file refl), refl, again.number, again.fault)
@@ -667,14 +692,14 @@ module _ {D : Type 0} (Honest Works : D → Type 0) (state : D → DiskState) (p
             names = names_by (Err fault) again;
             names_stops = names_stops_by (Err fault) again;
             renews_names = renews_names_still fault again;
-            number = subst (λ (n : ℕ). NumberBehind {T = Unit {0}} (Err (told_of fault)) n (next_number new)) same_number so.4;
+            number = subst (λ (n : ℕ). NumberBehind {T = Option PutOff} (Err (told_of fault)) n (next_number new)) same_number so.4;
             again = (λ is. absurd (so.0 (let same : told_of fault ≡ F.OpenAgain = cc is in same)), λ broken. never_again broken);
             untouched = λ is. absurd (so.0 (let same : told_of fault ≡ F.OpenAgain = cc is in same));
             broken = again.broken ∙ so.3;
             full = λ is. so.2 (let same : told_of fault ≡ F.FileFull = cc is in same);
             room = λ is. so.1 (let same : told_of fault ≡ F.HalfFull = cc is in same);
             memory = λ is. inr (wants_by fault again (let same : told_of fault ≡ F.OutOfMemory = cc is in same));
-            counts = subst (λ (n : ℕ). CountsFault {T = Unit {0}} n (faults (disk_of new)) (Err (told_of fault))) same_count so.5;
+            counts = subst (λ (n : ℕ). CountsFault {T = Option PutOff} n (faults (disk_of new)) (Err (told_of fault))) same_count so.5;
             works = λ w. t.works (m.works (again.works w));
             device = device_told fault
                 (λ device h before behind takes lent carries.
@@ -689,6 +714,7 @@ module _ {D : Type 0} (Honest Works : D → Type 0) (state : D → DiskState) (p
             most_syncs = in_all syncs made new (t.tick_syncs refl) m.all_syncs again.few_syncs;
             comes_on = tt;
             makes_room = tt;
+            begins_due = tt;
             grows = λ room. has_none room;
             pages = λ room. has_none room;
             grows_in_all = grows_by (Err fault) again;

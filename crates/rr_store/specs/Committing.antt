@@ -1,5 +1,5 @@
 -- What a commit does to a store.
-use Rattle.std.specs.Prelude.{◌≡◌, None, ◌⊎◌, ◌↔◌, ℕ, ◌+◌, ◌≤◌, false, List, Option, Some, Result, Ok, Err, IsErrOf, IsTrue, OnOk, length}
+use Rattle.std.specs.Prelude.{◌≡◌, None, ◌⊎◌, ◌↔◌, ℕ, ◌+◌, ◌≤◌, false, List, Option, Some, Result, Ok, Err, IsErrOf, IsTrue, OnErr, OnOk, length}
 use Rattle.rr_disk.specs.Disk.{DiskState}
 use Rattle.rr_disk.specs.Moments.{EachImage, LeavesOnly}
 use Rattle.rr_code.specs.declared.command.Command.{Command}
@@ -8,6 +8,7 @@ use Rattle.rr_images.specs.Calls.{TakesNewer}
 use Rattle.rr_images.specs.Layout.{Layout}
 use Rattle.rr_images.specs.Steps.{with_line}
 use Rattle.rr_log.specs.Growing.{Grows, TakesPages}
+use Rattle.rr_log.specs.PuttingOff.{BeginsIfDue}
 use Rattle.rr_turns.specs.declared.request.Request.{Request}
 use Rattle.rr_turns.specs.Judgement.{IsVerdict}
 use Rattle.rr_kit.specs.Kits.{KitTexts}
@@ -20,7 +21,7 @@ use Rattle.rr_store.specs.declared.store.Store.{Store}
 use Rattle.rr_store.specs.Allowing.{Between, CommitAllows}
 use Rattle.rr_store.specs.Fault.{CountsEnd, OnDeviceFault}
 use Rattle.rr_store.specs.Held.{Held, Takes, stamp_after, with_failure}
-use Rattle.rr_store.specs.Holding.{Carries, GamesArePlayed, GamesHaveSnapshots, HasNoRoom, IsFull, IsFullFor, IsUnchanged, Rests, disk_of, file_of, held_of, lent_of, number_of_next, replayed_of, ticks_left}
+use Rattle.rr_store.specs.Holding.{Carries, GamesArePlayed, GamesHaveSnapshots, HasNoRoom, IsFull, IsFullFor, IsUnchanged, Rests, disk_of, file_of, held_of, lent_of, number_of_next, put_off_of, replayed_of, ticks_left}
 use Rattle.rr_store.specs.Keeping.{ComesOn, GrowsInAll, MakesAtMost, length_on}
 use Rattle.rr_store.specs.Named.{KeepsNames, LendsNamed, NamesComing, NamesRoots, NamesSnapshots}
 use Rattle.rr_store.specs.Seeing.{IsJudgedBy, IsSeenAt, IsToldPlainly, Seen, judgement_at, plain_verdict}
@@ -121,6 +122,11 @@ pub record Commits {D : Type 0} (Honest Works : D → Type 0) (state : D → Dis
   pub comes_on : OnOk result ((IsFull old name request → ⊥) → ComesOn (file_of old) (file_of new))
   -- if it was taken without room, its record stands behind the first step of a checkpoint, which has four left at least
   pub makes_room : OnOk result (HasNoRoom old name request → 4 ≤ ticks_left new)
+  -- with a record that was kept, if a checkpoint was due and none was under way, one is under way now, or its first step was put
+  -- off for the reason that is told: the file was full, or memory was refused; nothing else is put off; and a refusal leaves what
+  -- is told
+  pub begins_due : OnOk result (BeginsIfDue (file_of old) (file_of new) (lent_of old) (put_off_of new))
+  pub put_off : OnErr result (put_off_of new ≡ put_off_of old)
   -- the file becomes longer only where no page under its end is free: where the half had room, as by one step of a checkpoint,
   -- and whatever is to be done, as `GrowsInAll` says
   pub grows : (IsFull old name request → ⊥) → Honest (disk_of new) → (texts : KitTexts) → Carries state old texts

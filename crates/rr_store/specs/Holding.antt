@@ -1,9 +1,10 @@
 -- What a store holds, and what is known of it between two calls.
-use Rattle.std.specs.Prelude.{◌≡◌, ◌⊎◌, ℕ, ◌-◌, List, length}
+use Rattle.std.specs.Prelude.{◌≡◌, ◌⊎◌, ℕ, ◌-◌, List, Option, length}
 use Rattle.rr_code.specs.declared.command.Command.{Command}
 use Rattle.rr_code.specs.Request.{record_text}
 use Rattle.rr_disk.specs.Disk.{DiskState}
 use Rattle.rr_kit.specs.Kits.{KitTexts, SpellsKit}
+use Rattle.rr_log.specs.declared.keeping.PutOff.{PutOff}
 use Rattle.rr_log.specs.declared.log.Log.{Log}
 use Rattle.rr_log.specs.Calls.{MeetsFullFile}
 use Rattle.rr_log.specs.Carrying as file
@@ -34,6 +35,10 @@ held_of store = record { kit = store.tables.kit; tables = world_of store.tables;
 -- how many commands its opening played
 abbrev pub replayed_of : {D : Type 0} → Store D → ℕ
 replayed_of store = store.replayed
+
+-- why the first step of a checkpoint was put off with the last request that was taken
+abbrev pub put_off_of : {D : Type 0} → Store D → Option PutOff
+put_off_of store = store.journal.put_off
 
 -- what it lends to a checkpoint: its tables in words, and snapshots of their games
 abbrev pub lent_of : {D : Type 0} → Store D → Lent

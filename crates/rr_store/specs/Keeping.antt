@@ -1,5 +1,5 @@
 -- What keeping the record of a request does to the open file.
-use Rattle.std.specs.Prelude.{◌≡◌, ◌⊎◌, ◌↔◌, ℕ, ◌+◌, ◌<◌, ◌≤◌, Bool, false, true, List, length, Result, IsErrOf, IsTrue, OnOk}
+use Rattle.std.specs.Prelude.{◌≡◌, ◌⊎◌, ◌↔◌, ℕ, ◌+◌, ◌<◌, ◌≤◌, Bool, false, true, List, length, Option, Result, Ok, Err, IfOk, IsErrOf, IsTrue, OnOk}
 use Rattle.rr_checkpoint.specs.Calls.{LeavesEither}
 use Rattle.rr_checkpoint.specs.Checkpoint.{left_behind_first}
 use Rattle.rr_checkpoint.specs.Growing.{GrowsWhereFull}
@@ -10,12 +10,14 @@ use Rattle.rr_images.specs.Layout.{Keeps}
 use Rattle.rr_kit.specs.declared.kit.Kit.{Kit}
 use Rattle.rr_log.specs.declared.fault.Fault.{Fault}
 use Rattle.rr_log.specs.declared.fault.Fault.TheVariants as F
+use Rattle.rr_log.specs.declared.keeping.PutOff.{PutOff}
 use Rattle.rr_log.specs.declared.log.Log.{Log}
 use Rattle.rr_log.specs.Calls.{MeetsFullFile, NumberBehind, layout_behind, ticks_due, world_behind}
 use Rattle.rr_log.specs.Carrying.{Carries}
 use Rattle.rr_log.specs.Fault.{CountsFault, OnDeviceFault, ends_broken}
 use Rattle.rr_log.specs.Growing.{Grows, TakesPages}
 use Rattle.rr_log.specs.Log.{HasNoRoom, IsDue, IsPastLast, IsTooLong, disk_of, free_of, is_broken, next_number, place_of, ticks_left}
+use Rattle.rr_log.specs.PuttingOff.{BeginsIfDue}
 use Rattle.rr_pages.specs.FreePages.{coming_of, present_of}
 use Rattle.rr_tables.specs.declared.records.rules.TableRules.{TableRules}
 use Rattle.rr_tables.specs.Records.Taking.{Takes, table_files, table_rules}
@@ -34,6 +36,11 @@ told_of F.DeviceFailed = F.DeviceFailed
 told_of F.FileFull = F.FileFull
 told_of F.OpenAgain = F.OpenAgain
 told_of F.OutOfMemory = F.OutOfMemory
+
+-- how the keeping of a record ended, and of one that was kept why a checkpoint was put off with it
+abbrev pub with_reason : Result (Unit {0}) Fault → Option PutOff → Result (Option PutOff) Fault
+with_reason (Ok kept) put_off = Ok put_off
+with_reason (Err fault) put_off = Err fault
 
 -- no checkpoint is under way, and none is to begin
 pub record Rests {D R : Type 0} (log : Log D R) : Type 0 where
@@ -73,7 +80,7 @@ pub record GrowsInAll {D R : Type 0} (state : D → DiskState) (old new : Log D 
 
 -- What keeping a record does: of every disk, where nothing else is said.
 pub record Keeping {D : Type 0} (Honest Works : D → Type 0) (state : D → DiskState) (past : D → List DiskState) (faults writes syncs : D → ℕ)
-    (old : Log D TableRules) (lent : Lent) (bytes : List ℕ) (result : Result (Unit {0}) Fault) (new : Log D TableRules) : Type 0 where
+    (old : Log D TableRules) (lent : Lent) (bytes : List ℕ) (result : Result (Option PutOff) Fault) (new : Log D TableRules) : Type 0 where
   pub honest : Honest (disk_of new) → Honest (disk_of old)
   -- of an honest disk that carries a world of which these tables and snapshots are lent: a stop at any moment leaves a file that
   -- keeps this world, or the one to which the record leads; and behind it the file carries the one that the answer tells
@@ -130,6 +137,9 @@ pub record Keeping {D : Type 0} (Honest Works : D → Type 0) (state : D → Dis
   -- another, which has four left at least
   pub comes_on : OnOk result ((IsFull old bytes → ⊥) → ComesOn old new)
   pub makes_room : OnOk result (HasNoRoom (place_of old) (length bytes) → 4 ≤ ticks_left new)
+  -- with a record that was kept, if a checkpoint was due and none was under way, one is under way now, or its first step was put
+  -- off for the reason that is told: the file was full, or memory was refused; nothing else is put off
+  pub begins_due : IfOk result (BeginsIfDue old new lent)
   -- the file becomes longer only where no page under its end is free: where there was room, as by one step of a checkpoint, and
   -- whatever is to be done, as `GrowsInAll` says
   pub grows : (IsFull old bytes → ⊥) → Honest (disk_of new) → (world : words.World) → AreLentOf table_rules world lent

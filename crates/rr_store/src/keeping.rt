@@ -6,17 +6,18 @@ ghost use Rattle.rr_store.specs.Keeping.{Keeping, told_of};
 
 use rr_code::{Command, Request, write_request};
 use rr_disk::Disk;
-use rr_log::{Fault, Log, TablesInWords};
+use rr_log::{Fault, Log, PutOff, TablesInWords};
 use rr_tables::records::TableRules;
 use rr_words::Name;
 
 /// Keeps a record. Where the half in use has no room for it, a checkpoint under way is ended first. Then the next one,
-/// which begins with the second attempt, makes room, unless the record takes more than eight slots.
+/// which begins with the second attempt, makes room, unless the record takes more than eight slots. If a checkpoint was
+/// due and its first step was put off, the reason is returned.
 pub(crate) fn keep_record<D: Disk + Drop, T: TablesInWords>(
     file: &mut Log<D, TableRules>,
     tables: &T,
     line: &[u8],
-) -> Result<(), Fault>
+) -> Result<Option<PutOff>, Fault>
     requires { 0 < length line.now }
     ensures { Keeping D.Honest D.Works D.state D.past D.fault_count D.write_count D.sync_count file.old (lent_of T.TablesInWords tables.now) line.now result file.new }
 {
@@ -28,17 +29,17 @@ pub(crate) fn keep_record<D: Disk + Drop, T: TablesInWords>(
         file.checkpoint(tables)?;
     }
     match file.keep(tables, line) {
-        Ok(()) => Ok(()),
+        Ok(put_off) => Ok(put_off),
         Err(fault) => Err(told(fault)),
     }
 }
 
 /// Whether the half had no room.
-fn is_half_full(kept: &Result<(), Fault>) -> bool
+fn is_half_full(kept: &Result<Option<PutOff>, Fault>) -> bool
     ensures { IsTrue result ↔ IsErrOf kept.now Fault.HalfFull }
 {
     match kept {
-        Ok(()) => false,
+        Ok(_) => false,
         Err(fault) => *fault == Fault::HalfFull,
     }
 }

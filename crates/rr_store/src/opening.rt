@@ -1,5 +1,5 @@
 //! Opening a file: after one sync its bytes are read, and its tables are recovered by the rules of the game.
-ghost use Rattle.std.specs.Prelude.{◌≡◌, false, IfOk, IfErr, Ok, Err};
+ghost use Rattle.std.specs.Prelude.{◌≡◌, false, IfOk, IfErr, None, Ok, Err};
 ghost use Rattle.rr_checkpoint.specs.Writer as writer;
 ghost use Rattle.rr_disk.specs.Disk.{DiskState, counted};
 ghost use Rattle.rr_images.specs.Layout.{Keeps as KeepsFile};
@@ -18,7 +18,7 @@ ghost use Rattle.rr_reading.specs.Worlds.World as words;
 ghost use Rattle.rr_store.specs.Allowing.{Between};
 ghost use Rattle.rr_store.specs.Fault.{CountsEnd, CountsFailure, OnDevice, OnDeviceFault};
 ghost use Rattle.rr_store.specs.Files.{AreTablesOf, StandsFor};
-ghost use Rattle.rr_store.specs.Holding.{Carries, GamesArePlayed, GamesHaveSnapshots, disk_of, file_of, held_of, replayed_of, ticks_left};
+ghost use Rattle.rr_store.specs.Holding.{Carries, GamesArePlayed, GamesHaveSnapshots, disk_of, file_of, held_of, put_off_of, replayed_of, ticks_left};
 ghost use Rattle.rr_store.specs.Named.{NamesComing, NamesRoots, NamesSnapshots, SnapshotsAreShort};
 ghost use Rattle.rr_store.specs.Opening.{IsFound, IsNoVerdict, IsSyncedFirst, OpenAllows, Refuses};
 ghost use Rattle.rr_store.specs.Replayed.{ReplaysFile};
@@ -101,6 +101,8 @@ pub fn open<D: Disk + Drop>(alloc: Global, disk: D) -> Result<Store<D>, Refused<
     ensures replayed { IfOk result (λ store. D.Honest (disk_of store) → (texts : KitTexts) (tables : World)
         → StandsFor (D.state disk).content texts tables
         → ReplaysFile (D.state disk).content (held_of store).kit (replayed_of store)) }
+    // No commit put off a checkpoint yet.
+    ensures put_off { IfOk result (λ store. put_off_of store ≡ None) }
     ensures whole { IfOk result (λ store. (held_of store).broken ≡ false) }
     ensures honest { IfOk result (λ store. D.Honest (disk_of store) → D.Honest disk) }
     ensures honest_left { IfErr result (λ refused. D.Honest refused.disk → D.Honest disk) }
@@ -194,6 +196,7 @@ fn begin<D: Disk + Drop>(alloc: Global, disk: D, found: Found) -> Store<D>
         (lines found.opened.far.records.items) (writer.place_of found.opened.writer)
         → CarriesRead table_files found.opened (D.state disk) (in_words texts (world_of found.recovered.tables))
         → Carries D.state result texts }
+    ensures put_off { put_off_of result ≡ None }
     ensures resting { ticks_left result ≡ writer.ticks_left_of found.opened.writer }
     ensures base { (file_of result).base ≡ found.recovered.base }
     ensures played { ArePlayed found.recovered.tables → GamesArePlayed result }
@@ -223,7 +226,11 @@ fn begin<D: Disk + Drop>(alloc: Global, disk: D, found: Found) -> Store<D>
     let file = Log::new(alloc, disk, writer, kit, snapshots, base);
     Store {
         alloc,
-        journal: FileJournal { file, buffer },
+        journal: FileJournal {
+            file,
+            buffer,
+            put_off: None,
+        },
         tables,
         replayed,
     }

@@ -24,6 +24,7 @@ use rr_code::{Command, Request};
 use rr_disk::Disk;
 use rr_game::history::Table;
 use rr_kit::Kit;
+use rr_log::PutOff;
 use rr_tables::Tables;
 use rr_words::Name;
 use std::alloc::Global;
@@ -39,7 +40,7 @@ pub struct Store<D: Drop> {
 
 impl<D: Disk + Drop> Store<D> {
     ghost use Rattle.rr_store.specs.Committing.{Commits};
-    ghost use Rattle.rr_store.specs.Holding.{Carries, GamesArePlayed, GamesHaveSnapshots, HasNoneBegun, IsUnchanged, Rests, disk_of, file_of, free_of, held_of, lent_of, last_of, replayed_of, root_of, ticks_left};
+    ghost use Rattle.rr_store.specs.Holding.{Carries, GamesArePlayed, GamesHaveSnapshots, HasNoneBegun, IsUnchanged, Rests, disk_of, file_of, free_of, held_of, lent_of, last_of, put_off_of, replayed_of, root_of, ticks_left};
     ghost use Rattle.rr_store.specs.Named.{HasShortSnapshots, LendsNamed, NamesComing, NamesRoots, NamesSnapshots};
     ghost use Rattle.rr_store.specs.Ticking.{MakesFew, Steps};
 
@@ -53,13 +54,18 @@ impl<D: Disk + Drop> Store<D> {
             tables: _,
             replayed: _,
         } = self;
-        let FileJournal { file, buffer: _ } = journal;
+        let FileJournal {
+            file,
+            buffer: _,
+            put_off: _,
+        } = journal;
         file.into_disk()
     }
 
     /// Lets a table take a request with this stamp, and keeps it in the file; gives the table's new stamp. From `Ok` on
     /// the request is safe. Before it a step of a checkpoint is made, where one is under way or due; where the half in
-    /// use has no room meanwhile, the checkpoint is ended first.
+    /// use has no room meanwhile, the checkpoint is ended first. If a checkpoint was due and its first step was put off,
+    /// `put_off` then says why.
     ///
     /// # Errors
     /// `OpenAgain` first, where the device failed before. Then what refuses the request: for an opening `StaleStamp`
@@ -102,6 +108,15 @@ impl<D: Disk + Drop> Store<D> {
         ensures { result ≡ replayed_of self.now }
     {
         self.replayed
+    }
+
+    /// Why the first step of a checkpoint that was due was put off with the last request that was taken: the file was
+    /// full, or memory was refused. `None` if none was put off then, and of a store that took no request since it was
+    /// opened. A refusal, a tick and a checkpoint leave it as it was.
+    pub fn put_off(&self) -> Option<PutOff>
+        ensures { result ≡ put_off_of self.now }
+    {
+        self.journal.put_off
     }
 
     /// What the tables are played with.
@@ -205,6 +220,7 @@ impl<D: Disk + Drop> Store<D> {
         ensures renews { IfOk result (λ tick. D.Honest (disk_of self.new) → (texts : KitTexts) → (carries : Carries D.state self.old texts)
             → RenewsAt table_files tick carries.file.carried.layout (D.state (disk_of self.new)) (in_words texts (held_of self.old).tables)) }
         ensures replayed { replayed_of self.new ≡ replayed_of self.old }
+        ensures put_off { put_off_of self.new ≡ put_off_of self.old }
 
         // The file becomes longer only by a page of a checkpoint, and only where no page under its end is free.
         ensures grows { D.Honest (disk_of self.new) → (texts : KitTexts) → Carries D.state self.old texts
@@ -247,6 +263,7 @@ impl<D: Disk + Drop> Store<D> {
         ensures fits { OnOk result (ticks_left self.old ≡ 0
             → IsFileFull (file_of self.old) (lent_of self.old) → ⊥) }
         ensures replayed { replayed_of self.new ≡ replayed_of self.old }
+        ensures put_off { put_off_of self.new ≡ put_off_of self.old }
 
         // The file becomes longer only where no page under its end is free: each is reached by the root from before, or
         // by the one that is written, which is taken then unless a device call failed.

@@ -2,7 +2,7 @@
 //! proof little.
 use rr_code::read_record;
 use rr_disk::Disk;
-use rr_store::{Fault, Store, Table, Tick};
+use rr_store::{Fault, PutOff, Store, Table, Tick};
 use rr_words::Name;
 use std::process::Abort;
 
@@ -30,6 +30,8 @@ pub(crate) enum Call {
     NameAt(usize, Option<&'static [u8]>),
     // How many commands the opening played.
     Replayed(u64),
+    // Why the first step of a checkpoint was put off with the last request that was taken.
+    PutOff(Option<PutOff>),
     IsBroken(bool),
     // The trade of the kit's diesel.
     Trade(u16),
@@ -119,6 +121,10 @@ fn replayed<D: Disk + Drop>(store: &Store<D>) -> u64 {
     store.replayed()
 }
 
+fn put_off<D: Disk + Drop>(store: &Store<D>) -> Option<PutOff> {
+    store.put_off()
+}
+
 fn is_broken<D: Disk + Drop>(store: &Store<D>) -> bool {
     store.is_broken()
 }
@@ -138,6 +144,7 @@ fn is_right<D: Disk + Drop>(store: &mut Store<D>, call: Call) -> bool {
         Call::Stands(word, told) => standing(store, word) == told,
         Call::NameAt(place, word) => has_name(store, place, word),
         Call::Replayed(count) => replayed(store) == count,
+        Call::PutOff(reason) => put_off(store) == reason,
         Call::IsBroken(told) => is_broken(store) == told,
         Call::Trade(dollars) => trade(store) == dollars,
     }

@@ -100,3 +100,20 @@ fn a_commit_leaves_what_the_opening_played(rt: HostRuntime) {
     let rt = &rt;
     check_file(rt, played_file(rt, &[]), &AROUND_A_COMMIT);
 }
+
+// Once 128 slots are used, the next record begins a checkpoint: of a page of commands, of two snapshots with a page each,
+// and of the directory. Three steps more are left then.
+static DUE: [Call; 6] = [
+    Call::Passes(2, 128),
+    Call::State(Ok((1, 128, 0))),
+    Call::PutOff(None),
+    Call::Commit(128, b"t1 pass b", Ok(129)),
+    Call::State(Ok((1, 129, 7))),
+    Call::PutOff(None),
+];
+
+#[test]
+fn a_commit_begins_a_checkpoint_that_is_due(rt: HostRuntime) {
+    let rt = &rt;
+    check_file(rt, played_file(rt, &[]), &DUE);
+}

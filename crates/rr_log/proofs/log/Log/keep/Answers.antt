@@ -15,8 +15,10 @@ use Rattle.rr_reading.specs.Worlds.Spelling.{worlds}
 use Rattle.rr_reading.specs.Worlds.World.{World}
 use Rattle.rr_log.specs.Log.{place_of, ticks_left}
 use Rattle.rr_log.proofs.Growing.{kept_grows, kept_pages, pages_still, stays_long}
+use Rattle.rr_log.proofs.PuttingOff.{kept_on}
 use Rattle.rr_log.proofs.Roots.{no_step, root_behind, then_record}
 use Rattle.rr_log.specs.Calls.{tables_due}
+use Rattle.rr_log.specs.PuttingOff.{reason_of}
 use Rattle.rr_log.specs.Roots.{KeepsRoots}
 use Rattle.rr_log.proofs.log.Log.keep.Goals as goal
 
@@ -212,3 +214,7 @@ returns-in_err-append-clause-pages g c =
 pub returns-clause-pages : goal.returns-clause-pages
 returns-clause-pages g c =
     kept_pages c.args.self.now c.append.new.self c.tick_before.new.self c.in_ok-full.ensures.pages c.in_ok-full.ensures.broken c.in_ok-append.ensures.free c.in_ok-append.ensures.left
+
+pub returns-clause-begins_due : goal.returns-clause-begins_due
+returns-clause-begins_due g c =
+    rw c.reason.ensures (kept_on c.args.self.now c.tick_before.new.self (lent_of g.T.TablesInWords c.args.tables.now) c.append.new.self (reason_of c.in_ok-full.full) c.in_ok-append.ensures.left c.in_ok-full.ensures.begins_due)

@@ -19,4 +19,4 @@ pub returns : goal.returns
 returns g c =
     commits g.D.Disk.Honest g.D.Disk.Works g.D.Disk.state g.D.Disk.past g.D.Disk.fault_count g.D.Disk.write_count g.D.Disk.sync_count
     c.args.self.now _ c.args.stamp c.args.name.now c.args.request.now refl (c.requires.name, c.requires.request) (sym c.is_broken.ensures ∙ c.if-is_broken.false) c.in_ok-taken.ensures.played c.in_ok-taken.ensures.snapshots
-    c.in_ok-taken.ensures.kit c.in_ok-taken.taken.stamp c.in_ok-taken.ensures.verdict c.in_ok-taken.ensures.judged c.in_ok-taken.ensures.plain c.in_ok-taken.ensures.world c.in_ok-taken.ensures.stamp c.in_ok-taken.ensures.kept
+    c.in_ok-taken.ensures.kit c.in_ok-taken.taken.stamp c.in_ok-taken.ensures.verdict c.in_ok-taken.ensures.judged c.in_ok-taken.ensures.plain c.in_ok-taken.ensures.world c.in_ok-taken.ensures.stamp c.in_ok-taken.ensures.kept.0
