@@ -8,9 +8,10 @@
 //!   turn that can be read; it refuses the others (`book_verdict`), and with 70 only if nothing else refuses.
 //! - A game made again of its plain values is that game. Bytes are those of at most one game's values.
 //! - `Table::step`, `take_back` and `forget` are refused exactly by `request_judgement`, apart from running out of
-//!   memory; and `Table::judge` also by each book for which the position in memory stands (`IsSeenAs`), whatever the
-//!   commands play. From the nearest snapshot fewer than 64 commands lead to any turn to which a table with its
-//!   snapshots can go back, and `CountsPlays` counts them exactly.
+//!   memory. From the nearest snapshot fewer than 64 commands lead to any turn to which a table with its snapshots can
+//!   go back, and `CountsPlays` counts them exactly.
+//! - `Table::judge` follows the rules of each book for which the position in memory stands (`IsSeenAs`), whatever the
+//!   kept commands play.
 #![tactic(auto)]
 
 mod acts;

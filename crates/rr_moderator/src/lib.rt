@@ -2,9 +2,9 @@
 //!
 //! Stands on `rr_store`, `rr_search` and `rr_serve`. Its promises:
 //!
-//! - `answer`, `line` and `serve` lose nothing that was acknowledged, make one commit for a line at most, and tell what
-//!   came of it (`Lasts`), whatever the file had. If the games in memory are what their commands play, they give exactly
-//!   the replies that `Answers` allows. Of all queries only the one for a turn's entries may be answered 70 then
+//! - `answer`, `line` and `serve` lose nothing that was acknowledged, make at most one commit for a line, and reply what
+//!   came of it (`Lasts`), whatever the file had. If the games in memory are what their commands play, the replies are
+//!   exactly those that `Answers` allows. Of all queries only the one for a turn's entries may be answered 70 then
 //!   (`MeetsQuery`).
 //! - All best runs earn the same, and no rule refuses one. `open` returns a right kit, and the tables for which the
 //!   file stands.
