@@ -7,8 +7,8 @@
 //! - On an honest disk that carries its world, whatever a crash leaves of `Log::keep`, `Log::tick` and
 //!   `Log::checkpoint` keeps the world from before, or for a record the one with it. A record makes at most two writes
 //!   and two syncs, a tick one of each.
-//! - After `Ok` of `Log::keep` a checkpoint that was due is under way, or the reason is returned why its first tick was
-//!   put off (`BeginsIfDue`): the file was full, or memory was refused.
+//! - After a success of `Log::keep` a checkpoint that was due is under way, or it returns that the first tick was put
+//!   off since the file is full, which is so then, or for memory (`BeginsIfDue`).
 //! - A file counts as full only if a checkpoint makes no room, or no number is left. A call that answers 60 counts one
 //!   fault, any other none; no 60 comes from such a disk while it works. A file grows only if no data page below its
 //!   new end is free (`Grows`).

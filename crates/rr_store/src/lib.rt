@@ -6,10 +6,10 @@
 //! - `Store::commit`: each image of each moment stands for the tables before it, or with the one pending lawful
 //!   request; after success with it (`CommitAllows`). `Commits` counts its calls. 70 changes nothing, unless the half
 //!   has no room after it, and the request is lawful if tables were played.
-//! - A commit is judged by the rules of each book for which the position in memory stands, whatever the file had. 52,
-//!   54, 66 and 68 come first. Only `ok` changes a table (`Commits`: `judged`, `plain`, `holds`).
-//! - After `Ok` of `Store::commit` a checkpoint that was due is under way, or `Store::put_off` says why its first step
-//!   was put off: the file was full, or memory was refused.
+//! - A commit is judged by the rules of each book for which the position in memory stands, whatever the file had, except
+//!   that a lawful `back` may be refused. 52, 54, 66 and 68 come first. Only success changes a table (`Commits`).
+//! - After a success of `Store::commit` a checkpoint that was due is under way, or `Store::put_off` says that its first
+//!   step was put off since the file is full, which is so then, or for memory.
 //! - `Store::tick` and `Store::checkpoint`: each image stands for the same tables, and after the last step has a newer
 //!   root (`Steps`).
 //! - `open` makes one sync and no write, and answers as `OpenAllows` says; 70 comes only if a root is current.
