@@ -7,7 +7,7 @@
 //!   request; after success with it (`CommitAllows`). `Commits` counts its calls. 70 changes nothing, unless the half
 //!   has no room after it, and the request is lawful if tables were played.
 //! - A commit is judged by the rules of each book for which the position in memory stands, whatever the file had, except
-//!   that a lawful `back` may be refused. 52, 54, 66 and 68 come first. Only success changes a table (`Commits`).
+//!   that a lawful take-back may be refused. 52, 54, 66 and 68 come first. Only success changes a table (`Commits`).
 //! - After a success of `Store::commit` a checkpoint that was due is under way, or `Store::put_off` says that its first
 //!   step was put off since the file is full, which is so then, or for memory.
 //! - `Store::tick` and `Store::checkpoint`: each image stands for the same tables, and after the last step has a newer
