@@ -6,7 +6,7 @@ use Rattle.rr_kit.specs.declared.kit.Kit.{Kit}
 use Rattle.rr_kit.specs.Kits.{IsRightKit, KitTexts, SpellsKit}
 use Rattle.rr_tables.specs.Records.Headline.{KeepsTables}
 use Rattle.rr_serve.specs.declared.faults.Fault as serve
-use Rattle.rr_serve.specs.Serving.{Session}
+use Rattle.rr_serve.specs.Serving.{Session, Served as AreServed}
 use Rattle.rr_serve.specs.Streams.{InputState, OutputState, CountsFailures, IsCutShort, IsSent}
 use Rattle.rr_store.specs.declared.fault.Fault as store
 use Rattle.rr_store.specs.declared.fault.Fault.TheVariants as T
@@ -24,7 +24,7 @@ use Rattle.rr_moderator.specs.declared.summary.Summary.{Summary}
 use Rattle.rr_moderator.specs.Answer.{summary_text}
 use Rattle.rr_moderator.specs.Fault.{of_store, refusal_of}
 use Rattle.rr_moderator.specs.Holding.{IsSummary, disk_under, held_of, store_of, told_of}
-use Rattle.rr_moderator.specs.Durability.{Opens, SpeaksAndLasts, StandsAlong, told}
+use Rattle.rr_moderator.specs.Durability.{Lasting, Opens, SpeaksAndLasts, StandsAlong, told}
 use Rattle.rr_moderator.specs.Serving.{EndsAs}
 use Rattle.rr_cli.specs.Ending.{status_of}
 use Rattle.rr_cli.specs.declared.ending.Ending.{Ending}
@@ -121,20 +121,21 @@ pub record IsRefusedFile {D : Type 0} (Honest Works : D → Type 0) (state : D �
   pub ends : status ≡ status_of ending
   pub written : IsRefused (of_store fault) writer_old writer_new ending
 
--- What `serve` does with a disk, a reader and a writer, and the status with which it ends: the file is opened; where its tables
--- were played, each line is answered so that what it comes to lasts, what is written are the replies to what is read, and
--- whatever a stop leaves stands for what was held then, or for that with the request pending then; it ends with 69 exactly
--- where a read or a write failed; or the file is refused, and the reader isn't read.
+-- What `serve` does with a disk, a reader and a writer, and the status with which it ends: the file is opened; each line is
+-- answered so that what it comes to lasts, what is written are the replies to what is read, and whatever a stop leaves stands for
+-- what was held then, or for that with the request pending then; and where its tables were played, these are the replies that the
+-- rules give; it ends with 69 exactly where a read or a write failed; or the file is refused, and the reader isn't read.
 pub data Serves {D : Type 0} (Honest Works : D → Type 0) (state : D → DiskState) (past : D → List DiskState) (faults writes syncs : D → ℕ) (old new : D)
     (reader_old reader_new : InputState) (writer_old writer_new : OutputState) : ℕ → Type 0 where
   Served : (begun ended : Moderator D) (result : Result (Unit {0}) Fault) (cause : Result (Unit {0}) serve.Fault)
       → Begins Honest Works state past faults writes syncs old begun
       → EndsAs result cause
-      → (GamesArePlayed (store_of begun)
-      → (session : Session (SpeaksAndLasts Honest Works state past faults writes syncs) told (told_of begun) (told_of ended) reader_old reader_new writer_old writer_new cause)
-      × (Honest (disk_under ended) → (texts : KitTexts) → Carries state (store_of begun) texts
+      → (session : Session (Lasting Honest Works state past faults writes syncs) told (told_of begun) (told_of ended) reader_old reader_new writer_old writer_new cause)
+      → (Honest (disk_under ended) → (texts : KitTexts) → Carries state (store_of begun) texts
       → LeavesOnly (past (disk_under begun)) (state (disk_under begun)) (past (disk_under ended)) (state (disk_under ended))
-      (StandsAlong Honest Works state past faults writes syncs texts (told_of begun) session.lines session.replies (told_of ended) session.served)))
+      (StandsAlong Honest Works state past faults writes syncs texts (told_of begun) session.lines session.replies (told_of ended) session.served))
+      → (GamesArePlayed (store_of begun)
+      → AreServed (SpeaksAndLasts Honest Works state past faults writes syncs) told (told_of begun) session.lines session.replies (told_of ended))
       → CountsFailures cause reader_old.failures reader_new.failures writer_old.failures writer_new.failures
       → new ≡ disk_under ended
       → Serves Honest Works state past faults writes syncs old new reader_old reader_new writer_old writer_new (status_of (ending_of result))

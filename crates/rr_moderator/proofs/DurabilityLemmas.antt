@@ -11,6 +11,7 @@ use Rattle.rr_code.specs.Line.{SpellsLine}
 use Rattle.rr_log.specs.declared.log.Log.{Log}
 use Rattle.rr_log.specs.Log as log
 use Rattle.rr_tables.specs.declared.records.rules.TableRules.{TableRules}
+use Rattle.rr_tables.specs.declared.records.fault.Fault as judge
 use Rattle.rr_tables.specs.Records.Headline.{KeepsTablesOr}
 use Rattle.rr_tables.specs.Records.Taking.{table_files}
 use Rattle.rr_tables.specs.Records.Words.{in_words}
@@ -19,9 +20,10 @@ use Rattle.rr_serve.specs.Serving.{tells_failure}
 use Rattle.rr_store.specs.declared.fault.Fault as store
 use Rattle.rr_store.specs.declared.fault.Fault.TheVariants as T
 use Rattle.rr_store.specs.declared.store.Store.{Store}
+use Rattle.rr_store.specs.Fault as stored
 use Rattle.rr_store.specs.Allowing.{BeforeOrAfter}
 use Rattle.rr_store.specs.Committing.{Commits, Spares}
-use Rattle.rr_store.specs.Held.{Held, Takes, Accepted, Refused, Wants, NoRoom, Fails, Again, stamp_after, with_tables}
+use Rattle.rr_store.specs.Held.{Held, Takes, Accepted, Refused, Wants, NoRoom, Fails, Again, with_tables}
 use Rattle.rr_store.specs.Holding.{Carries, GamesArePlayed, HasNoRoom, IsFull, IsFullFor, IsUnchanged, disk_of, file_of, held_of, lent_of, number_of_next, ticks_left}
 use Rattle.rr_store.specs.Keeping.{ComesOn, MakesAtMost}
 use Rattle.rr_store.specs.World.{TableRequest, TableState, for_table, judgement_in, state_after, table_named, world_after}
@@ -32,13 +34,13 @@ use Rattle.rr_turns.specs.declared.request.Request.{Request}
 use Rattle.rr_turns.specs.Judgement.{IsVerdict}
 use Rattle.rr_moderator.specs.declared.fault.Fault.{Fault}
 use Rattle.rr_moderator.specs.declared.fault.Fault.TheVariants as F
-use Rattle.rr_moderator.specs.Answer.{accepted_text}
+use Rattle.rr_moderator.specs.Answer.{accepted_text, accepted_with}
 use Rattle.rr_moderator.specs.Best.{best_run}
 use Rattle.rr_moderator.specs.Choosing.{CommitsBest, Stays, Goes_on}
-use Rattle.rr_moderator.specs.Durability.{CannotKeep, CommitsOnce, CountsTold, HasNoPlace, IsTaken, IsToldOf, Lasts, Makes_none, Makes_one, layout_behind, number_behind, reaches_file, tells_acceptance, tells_full}
+use Rattle.rr_moderator.specs.Durability.{CannotKeep, CommitsOnce, CountsTold, HasNoPlace, IsIdle, IsReplyTo, IsRuled, IsTaken, IsToldOf, Lacks_run, Lasts, Makes_none, Makes_one, SaysNeither, layout_behind, number_behind, reaches_file, tells_acceptance, tells_full}
 use Rattle.rr_moderator.specs.Fault.{of_store, refusal_of}
-use Rattle.rr_moderator.specs.Serving.{AsksFor, AsBest, Gives, reply_to, text_of}
-use Rattle.rr_moderator.proofs.Telling.{SaysNeither, accepted_calm, accepted_reaches, accepted_told, counts_told, failure_calm, failure_reaches, failure_told, full_calm, full_reaches, lacks_calm, memory_calm, memory_reaches, refusal_calm, verdict_calm}
+use Rattle.rr_moderator.specs.Serving.{Asks, AsksFor, AsBest, Gives, OfRun, Spells, reply_to, text_of}
+use Rattle.rr_moderator.proofs.Telling.{accepted_calm, accepted_reaches, accepted_told, counts_told, failure_calm, failure_reaches, failure_told, full_calm, full_reaches, memory_calm, memory_reaches, refusal_calm, store_calm}
 use Rattle.rr_moderator.proofs.Verdicts.{refused_by_rules}
 use Rattle.rr_words.specs.declared.line.TheConstants.{LONGEST_LINE}
 
@@ -54,10 +56,18 @@ unchanged_by old new T.FileFull device full memory h = absurd (full refl)
 unchanged_by old new T.OutOfMemory device full memory h = absurd (memory refl)
 unchanged_by old new _ device full memory h = h
 
--- whether it is want of memory
-is_memory : (fault : store.Fault) → (fault ≡ T.OutOfMemory) ⊎ (fault ≡ T.OutOfMemory → ⊥)
-is_memory T.OutOfMemory = inl refl
-is_memory _ = inr (λ e. absurd (cc e))
+-- which refusal it is: of the device, of a full file, for want of memory, or another
+data IsOther (fault : store.Fault) : Type 0 where
+  Device : fault ≡ T.DeviceFailed → IsOther fault
+  Full : fault ≡ T.FileFull → IsOther fault
+  Memory : fault ≡ T.OutOfMemory → IsOther fault
+  Other : (fault ≡ T.DeviceFailed → ⊥) → (fault ≡ T.FileFull → ⊥) → (fault ≡ T.OutOfMemory → ⊥) → IsOther fault
+
+which : (fault : store.Fault) → IsOther fault
+which T.DeviceFailed = Device refl
+which T.FileFull = Full refl
+which T.OutOfMemory = Memory refl
+which _ = Other (λ e. absurd (cc e)) (λ e. absurd (cc e)) (λ e. absurd (cc e))
 
 module _ {D : Type 0} (Honest Works : D → Type 0) (state : D → DiskState) (past : D → List DiskState) (faults writes syncs : D → ℕ) (old new : Store D) (line reply : List ℕ) where
   abbrev pub Lasting : Type 0
@@ -110,8 +120,10 @@ module _ {D : Type 0} (Honest Works : D → Type 0) (state : D → DiskState) (p
   lasts_unchanged same goes_on calm commits =
       record {
         pending = None;
-        pends = tt;
-        accepted = λ told. both_ways (tells_acceptance reply) told calm.2;
+        asks = tt;
+        pends = λ played. tt;
+        accepted = λ played told. both_ways (tells_acceptance reply) told calm.2;
+        ruled = λ told. both_ways (tells_acceptance reply) told calm.2;
         honest = λ h. subst Honest (same_disk same) h;
         stops = λ h texts s. at_rest (BeforeOrAfter texts (held_of old).kit (held_of old).tables None) (same_disk same)
             (started (past (disk_of old)) (state (disk_of old)) (BeforeOrAfter texts (held_of old).kit (held_of old).tables None) (λ image is. inl (carried_keeps state old texts s image is)));
@@ -122,7 +134,10 @@ module _ {D : Type 0} (Honest Works : D → Type 0) (state : D → DiskState) (p
         renews = λ whole one none h texts s. let left : ticks_left new ≡ ticks_left old = ap (λ (l : Log D TableRules). log.ticks_left l) same.same_file in absurd (omega (arith, one, none, left));
         number = λ _. same_number calm.2 (ap (λ (l : Log D TableRules). log.next_number l) same.same_file);
         spares = λ _. same;
-        untouched = λ _. same;
+        unasked = λ _. same;
+        untouched = λ _ _. same;
+        same_kit = ap (λ (h : Held). h.kit) same.same_held;
+        same_tables = λ _. ap (λ (h : Held). h.tables) same.same_held;
         breaks = λ _. ap (λ (h : Held). h.broken) same.same_held;
         counts = counts_none calm.0 (ap faults (same_disk same));
         works = λ w. subst Works (same_disk same) w;
@@ -140,32 +155,42 @@ module _ {D : Type 0} (Honest Works : D → Type 0) (state : D → DiskState) (p
       }
 
   -- the store stays, and the reply says nothing of it
-  pub lasts_alone : new ≡ old → SaysNeither reply → Lasting
-  lasts_alone same calm =
+  pub lasts_alone : new ≡ old → SaysNeither reply → IsIdle (held_of old) line reply → Lasting
+  lasts_alone same calm idle =
       lasts_unchanged (record { same_file = ap (λ (x : Store D). file_of x) same; same_held = ap (λ (x : Store D). held_of x) same })
-      (λ h whole texts s. subst (λ (x : Store D). Carries state x texts) (sym same) s) calm (Makes_none same calm.2)
+      (λ h whole texts s. subst (λ (x : Store D). Carries state x texts) (sym same) s) calm (Makes_none idle same calm.2)
 
-  module _ (stamp : ℕ) (name : List ℕ) (c : Request Command) (sheet : List ℕ) (short : length line ≤ LONGEST_LINE) (asks : AsksFor (held_of old) line stamp (for_table name c) sheet) (whole : (held_of old).broken ≡ false) (played : GamesArePlayed old) where
+  module _ (stamp : ℕ) (name : List ℕ) (c : Request Command) (sheet : List ℕ) (short : length line ≤ LONGEST_LINE) (spells : Spells line stamp (for_table name c) sheet)
+      (given : GamesArePlayed old → AsksFor (held_of old) line stamp (for_table name c) sheet) (whole : (held_of old).broken ≡ false) where
     abbrev asked : TableRequest
     asked = for_table name c
+
+    abbrev Played : Type 0
+    Played = GamesArePlayed old
 
     abbrev Lawful : Type 0
     Lawful = IsVerdict (judgement_in (held_of old).kit (held_of old).tables stamp name c) None
 
-    abbrev gives : Lawful → Gives (held_of old) line asked
-    gives lawful = record { stamp = stamp; sheet = sheet; short = short; asks = asks; whole = whole; lawful = lawful }
+    abbrev asks_so : Asks (held_of old) line asked
+    asks_so = record { stamp = stamp; sheet = sheet; short = short; spells = spells; whole = whole }
+
+    abbrev gives : (Played → Lawful) → Played → Gives (held_of old) line asked
+    gives lawful played = record { stamp = stamp; sheet = sheet; short = short; asks = given played; whole = whole; lawful = lawful played }
 
     abbrev Committed : Result ℕ store.Fault → Type 0
     Committed taking = Commits Honest Works state past faults writes syncs old name stamp c new taking
 
-    by_commit : (taking : Result ℕ store.Fault) (pending : Option TableRequest) → Committed taking → IsToldOf asked pending taking reply → Once pending
-    by_commit taking pending k tells = Makes_one asked stamp sheet taking asks k tells
+    abbrev Replied : Result ℕ store.Fault → Type 0
+    Replied taking = IsReplyTo asked sheet taking reply
 
-    no_place : Lawful → (at : Store D) → IsFull at name c → HasNoPlace old line at
-    no_place lawful at full = record { asked = asked; lawful = gives lawful; full = full }
+    by_commit : (taking : Result ℕ store.Fault) (pending : Option TableRequest) → Committed taking → IsToldOf asked pending taking reply → Replied taking → Once pending
+    by_commit taking pending k tells told = Makes_one asked stamp sheet taking spells given k tells told
 
-    cannot_keep : Lawful → (at : Store D) → IsFullFor at (lent_of old) name c → CannotKeep old line at
-    cannot_keep lawful at full = record { asked = asked; lawful = gives lawful; full = full }
+    no_place : (Played → Lawful) → (at : Store D) → IsFull at name c → HasNoPlace old line at
+    no_place lawful at full = record { asked = asked; asks = asks_so; lawful = gives lawful; full = full }
+
+    cannot_keep : (Played → Lawful) → (at : Store D) → IsFullFor at (lent_of old) name c → CannotKeep old line at
+    cannot_keep lawful at full = record { asked = asked; asks = asks_so; lawful = gives lawful; full = full }
 
     -- a file that keeps what was held, or that with the lawful request, stands for it
     stands : (texts : KitTexts) → Carries state old texts → Lawful → (image : List ℕ)
@@ -178,10 +203,53 @@ module _ {D : Type 0} (Honest Works : D → Type 0) (state : D → DiskState) (p
     abbrev behind : TableState
     behind = state_after (held_of old).kit (table_named (held_of old).tables name) c
 
-    -- what remains to be told of a lawful request that reached the file, by what the reply says
+    abbrev HeldNow : Type 0
+    HeldNow = held_of new ≡ with_tables (held_of old) (world_after (held_of old).kit (held_of old).tables name c)
+
+    abbrev Takes_so : Result ℕ store.Fault → Type 0
+    Takes_so taking = Takes (held_of old) stamp name c (held_of new) taking
+
+    -- what was played and was taken, or reached the file, is lawful
+
+    taken_lawful : {taking : Result ℕ store.Fault} (n : ℕ) → Takes_so taking → taking ≡ Ok n → Lawful × HeldNow
+    taken_lawful n (Accepted was lawful held_is) is = (lawful, held_is)
+    taken_lawful n (Refused fault was verdict held_is) is = absurd (cc is)
+    taken_lawful n (Wants was first held_is) is = absurd (cc is)
+    taken_lawful n (NoRoom was lawful held_is) is = absurd (cc is)
+    taken_lawful n (Fails was lawful held_is) is = absurd (cc is)
+    taken_lawful n (Again broken held_is) is = absurd (cc is)
+
+    one_fault : (a b : store.Fault) → ◌≡◌ {A = Result ℕ store.Fault} (Err a) (Err b) → a ≡ b
+    one_fault a b is = cc
+
+    no_rule : (fault : store.Fault) (told : store.Fault) → IsVerdict (judgement_in (held_of old).kit (held_of old).tables stamp name c) (Some fault)
+        → ((cause : judge.Fault) → stored.of_rules cause ≡ told → ⊥) → fault ≡ told → Lawful
+    no_rule fault told verdict never is =
+        let by_rule = refused_by_rules (held_of old).kit (held_of old).tables stamp name c fault verdict in absurd (never by_rule.0 (sym by_rule.2 ∙ is))
+
+    failed_lawful : {taking : Result ℕ store.Fault} → Takes_so taking → taking ≡ Err T.DeviceFailed → Lawful
+    failed_lawful (Accepted was lawful held_is) is = lawful
+    failed_lawful (Refused fault was verdict held_is) is = no_rule fault T.DeviceFailed verdict no_failure (one_fault fault T.DeviceFailed is)
+    failed_lawful (Wants was first held_is) is = absurd (cc is)
+    failed_lawful (NoRoom was lawful held_is) is = lawful
+    failed_lawful (Fails was lawful held_is) is = lawful
+    failed_lawful (Again broken held_is) is = absurd (cc is)
+
+    full_lawful : {taking : Result ℕ store.Fault} → Takes_so taking → taking ≡ Err T.FileFull → Lawful
+    full_lawful (Accepted was lawful held_is) is = lawful
+    full_lawful (Refused fault was verdict held_is) is = no_rule fault T.FileFull verdict no_full (one_fault fault T.FileFull is)
+    full_lawful (Wants was first held_is) is = absurd (cc is)
+    full_lawful (NoRoom was lawful held_is) is = lawful
+    full_lawful (Fails was lawful held_is) is = lawful
+    full_lawful (Again broken held_is) is = absurd (cc is)
+
+    -- what remains to be told of a request that reached the file, by what the reply says
     record Ends : Type 0 where
-      pub accepted : tells_acceptance reply ≡ true → IsTaken (held_of old) line (Some asked) (held_of new) reply
+      pub accepted : Played → tells_acceptance reply ≡ true → IsTaken (held_of old) line (Some asked) (held_of new) reply
+      pub ruled : tells_acceptance reply ≡ true → IsRuled old line (Some asked)
       pub reaches : reaches_file reply ≡ true
+      pub same_kit : (held_of new).kit ≡ (held_of old).kit
+      pub same_tables : tells_acceptance reply ≡ false → (held_of new).tables ≡ (held_of old).tables
       pub renews : Renewed (Some asked) (tells_acceptance reply)
       pub number : tells_failure reply ≡ false → number_of_next new ≡ number_behind (tells_acceptance reply) (number_of_next old)
       pub breaks : tells_failure reply ≡ false → (held_of new).broken ≡ (held_of old).broken
@@ -191,20 +259,25 @@ module _ {D : Type 0} (Honest Works : D → Type 0) (state : D → DiskState) (p
       pub makes_room : tells_acceptance reply ≡ true → HasNoRoom old name c → 4 ≤ ticks_left new
       pub full : tells_full reply ≡ true → IsFullFor new (lent_of old) name c
 
-    reached : (taking : Result ℕ store.Fault) → Lawful → Committed taking → IsToldOf asked (Some asked) taking reply → Ends → Lasting
-    reached taking lawful k tells ends =
+    reached : (taking : Result ℕ store.Fault) → (Played → Lawful) → Committed taking → IsToldOf asked (Some asked) taking reply → Replied taking → Ends → Lasting
+    reached taking lawful k tells told ends =
         record {
           pending = Some asked;
+          asks = asks_so;
           pends = gives lawful;
           accepted = ends.accepted;
+          ruled = ends.ruled;
           honest = k.honest;
-          stops = λ h texts s. weaker (k.keeps h texts s) (BeforeOrAfter texts (held_of old).kit (held_of old).tables (Some asked)) (stands texts s lawful);
+          stops = λ h texts s. weaker (k.keeps h texts s) (BeforeOrAfter texts (held_of old).kit (held_of old).tables (Some asked)) (stands texts s (lawful s.played));
           keeps = k.keeps;
           carries = k.carries;
           renews = ends.renews;
           number = ends.number;
           spares = λ alone. both_ways (reaches_file reply) ends.reaches alone;
-          untouched = λ unlawful. absurd (unlawful (asked, gives lawful));
+          unasked = λ none. absurd (none asked asks_so);
+          untouched = λ played unlawful. absurd (unlawful (asked, gives lawful played));
+          same_kit = ends.same_kit;
+          same_tables = ends.same_tables;
           breaks = ends.breaks;
           counts = ends.counts;
           works = k.works;
@@ -218,19 +291,21 @@ module _ {D : Type 0} (Honest Works : D → Type 0) (state : D → DiskState) (p
           comes_on = λ told room. ends.comes_on told (λ full. room (no_place lawful old full));
           makes_room = ends.makes_room;
           full = λ told. cannot_keep lawful new (ends.full told);
-          commits = by_commit taking (Some asked) k tells;
+          commits = by_commit taking (Some asked) k tells told;
         }
 
-    taken : (n : ℕ) → reply ≡ accepted_text (held_of old).kit name behind c sheet → Lawful → held_of new ≡ with_tables (held_of old) (world_after (held_of old).kit (held_of old).tables name c)
-        → Committed (Ok n) → Lasting
-    taken n told lawful held_is k =
-        reached (Ok n) lawful k (refl, ap tells_acceptance told ∙ accepted_told (held_of old).kit name behind c sheet)
+    taken : (n : ℕ) → (Played → reply ≡ accepted_text (held_of old).kit name behind c sheet) → Replied (Ok n) → Committed (Ok n) → Lasting
+    taken n said told k =
+        reached (Ok n) lawful k (refl, acceptance) told
         (record {
-          accepted = λ _. record { asked = asked; pends = refl; gives = gives lawful; held = held_is; told = told };
-          reaches = ap reaches_file told ∙ accepted_reaches (held_of old).kit name behind c sheet;
-          renews = subst (λ (b : Bool). Renewed (Some asked) b) (sym (ap tells_acceptance told ∙ accepted_told (held_of old).kit name behind c sheet)) k.renews;
-          number = λ _. subst (λ (b : Bool). number_of_next new ≡ number_behind b (number_of_next old)) (sym (ap tells_acceptance told ∙ accepted_told (held_of old).kit name behind c sheet)) k.number;
-          breaks = λ _. ap (λ (h : Held). h.broken) held_is;
+          accepted = λ played _. record { asked = asked; pends = refl; gives = gives lawful played; held = (taken_lawful n (k.takes played) refl).1; told = said played };
+          ruled = λ _. record { asked = asked; pends = refl; asks = asks_so; lawful = k.judged };
+          reaches = ap reaches_file text ∙ accepted_reaches name n told.0 sheet;
+          same_kit = k.holds.0;
+          same_tables = λ none. both_ways (tells_acceptance reply) acceptance none;
+          renews = subst (λ (b : Bool). Renewed (Some asked) b) (sym acceptance) k.renews;
+          number = λ _. subst (λ (b : Bool). number_of_next new ≡ number_behind b (number_of_next old)) (sym acceptance) k.number;
+          breaks = λ _. k.holds.1;
           counts = counts_none calm.0 k.counts;
           device = λ is. both_ways (tells_failure reply) is calm.0;
           comes_on = λ _. k.comes_on;
@@ -238,36 +313,54 @@ module _ {D : Type 0} (Honest Works : D → Type 0) (state : D → DiskState) (p
           full = λ is. both_ways (tells_full reply) is calm.1;
         })
       where
-        calm : (tells_failure reply ≡ false) × (tells_full reply ≡ false)
-        calm = (ap tells_failure told ∙ (accepted_calm (held_of old).kit name behind c sheet).0, ap tells_full told ∙ (accepted_calm (held_of old).kit name behind c sheet).1)
+        lawful : Played → Lawful
+        lawful played = (taken_lawful n (k.takes played) refl).0
 
-    failed : reply ≡ refusal_of F.DeviceFailed → Lawful → Committed (Err T.DeviceFailed) → Lasting
-    failed told lawful k =
-        reached (Err T.DeviceFailed) lawful k (ap tells_acceptance told ∙ refusal_calm F.DeviceFailed)
+        text : reply ≡ accepted_with name n told.0 sheet
+        text = told.2
+
+        acceptance : tells_acceptance reply ≡ true
+        acceptance = ap tells_acceptance text ∙ accepted_told name n told.0 sheet
+
+        calm : (tells_failure reply ≡ false) × (tells_full reply ≡ false)
+        calm = (ap tells_failure text ∙ (accepted_calm name n told.0 sheet).0, ap tells_full text ∙ (accepted_calm name n told.0 sheet).1)
+
+    failed : Replied (Err T.DeviceFailed) → Committed (Err T.DeviceFailed) → Lasting
+    failed told k =
+        reached (Err T.DeviceFailed) (λ played. failed_lawful (k.takes played) refl) k refused told
         (record {
-          accepted = λ is. both_ways (tells_acceptance reply) is (ap tells_acceptance told ∙ refusal_calm F.DeviceFailed);
+          accepted = λ played is. both_ways (tells_acceptance reply) is refused;
+          ruled = λ is. both_ways (tells_acceptance reply) is refused;
           reaches = ap reaches_file told ∙ failure_reaches;
-          renews = subst (λ (b : Bool). Renewed (Some asked) b) (sym (ap tells_acceptance told ∙ refusal_calm F.DeviceFailed)) k.renews;
+          same_kit = ap (λ (h : Held). h.kit) k.holds;
+          same_tables = λ _. ap (λ (h : Held). h.tables) k.holds;
+          renews = subst (λ (b : Bool). Renewed (Some asked) b) (sym refused) k.renews;
           number = λ calm. both_ways (tells_failure reply) (ap tells_failure told ∙ failure_told) calm;
           breaks = λ calm. both_ways (tells_failure reply) (ap tells_failure told ∙ failure_told) calm;
           counts = subst (λ (r : List ℕ). CountsTold (faults (disk_of old)) (faults (disk_of new)) (tells_failure r)) (sym told)
               (counts_told (faults (disk_of old)) (faults (disk_of new)) T.DeviceFailed k.counts);
           device = λ _. k.device;
-          comes_on = λ is. both_ways (tells_acceptance reply) is (ap tells_acceptance told ∙ refusal_calm F.DeviceFailed);
-          makes_room = λ is. both_ways (tells_acceptance reply) is (ap tells_acceptance told ∙ refusal_calm F.DeviceFailed);
+          comes_on = λ is. both_ways (tells_acceptance reply) is refused;
+          makes_room = λ is. both_ways (tells_acceptance reply) is refused;
           full = λ is. both_ways (tells_full reply) is (ap tells_full told ∙ failure_calm);
         })
+      where
+        refused : tells_acceptance reply ≡ false
+        refused = ap tells_acceptance told ∙ refusal_calm F.DeviceFailed
 
     -- there was no room in the file
-    no_space : reply ≡ refusal_of F.FileFull → Lawful → held_of new ≡ held_of old → Committed (Err T.FileFull) → Lasting
-    no_space told lawful same k =
-        reached (Err T.FileFull) lawful k refused
+    no_space : Replied (Err T.FileFull) → Committed (Err T.FileFull) → Lasting
+    no_space told k =
+        reached (Err T.FileFull) (λ played. full_lawful (k.takes played) refl) k refused told
         (record {
-          accepted = λ is. both_ways (tells_acceptance reply) is refused;
+          accepted = λ played is. both_ways (tells_acceptance reply) is refused;
+          ruled = λ is. both_ways (tells_acceptance reply) is refused;
           reaches = ap reaches_file told ∙ full_reaches;
+          same_kit = ap (λ (h : Held). h.kit) k.holds;
+          same_tables = λ _. ap (λ (h : Held). h.tables) k.holds;
           renews = subst (λ (b : Bool). Renewed (Some asked) b) (sym refused) k.renews;
           number = λ _. same_number refused k.number;
-          breaks = λ _. ap (λ (h : Held). h.broken) same;
+          breaks = λ _. ap (λ (h : Held). h.broken) k.holds;
           counts = counts_none calm k.counts;
           device = λ is. both_ways (tells_failure reply) is calm;
           comes_on = λ is. both_ways (tells_acceptance reply) is refused;
@@ -281,24 +374,22 @@ module _ {D : Type 0} (Honest Works : D → Type 0) (state : D → DiskState) (p
         refused : tells_acceptance reply ≡ false
         refused = ap tells_acceptance told ∙ refusal_calm F.FileFull
 
-    -- what wants memory is lawful, as the games were played
-    lawful_want : IsUnchanged old new ⊎ ((GamesArePlayed old → Lawful) × HasNoRoom new name c) → IsUnchanged old new ⊎ (Lawful × HasNoRoom new name c)
-    lawful_want (inl unchanged) = inl unchanged
-    lawful_want (inr wants) = inr (wants.0 played, wants.1)
-
     -- memory was wanted
-    wanting : reply ≡ refusal_of F.OutOfMemory → held_of new ≡ held_of old → Committed (Err T.OutOfMemory) → IsUnchanged old new ⊎ (Lawful × HasNoRoom new name c) → Lasting
-    wanting told same k (inl unchanged) =
+    wanting : Replied (Err T.OutOfMemory) → Committed (Err T.OutOfMemory) → IsUnchanged old new ⊎ ((Played → Lawful) × HasNoRoom new name c) → Lasting
+    wanting told k (inl unchanged) =
         let calm = subst SaysNeither (sym told) memory_calm in
-        lasts_unchanged unchanged k.carries calm (by_commit (Err T.OutOfMemory) None k calm.2)
-    wanting told same k (inr wants) =
-        reached (Err T.OutOfMemory) wants.0 k calm.2
+        lasts_unchanged unchanged k.carries calm (by_commit (Err T.OutOfMemory) None k calm.2 told)
+    wanting told k (inr wants) =
+        reached (Err T.OutOfMemory) wants.0 k calm.2 told
         (record {
-          accepted = λ is. both_ways (tells_acceptance reply) is calm.2;
+          accepted = λ played is. both_ways (tells_acceptance reply) is calm.2;
+          ruled = λ is. both_ways (tells_acceptance reply) is calm.2;
           reaches = ap reaches_file told ∙ memory_reaches;
+          same_kit = ap (λ (h : Held). h.kit) k.holds;
+          same_tables = λ _. ap (λ (h : Held). h.tables) k.holds;
           renews = subst (λ (b : Bool). Renewed (Some asked) b) (sym calm.2) k.renews;
           number = λ _. same_number calm.2 k.number;
-          breaks = λ _. ap (λ (h : Held). h.broken) same;
+          breaks = λ _. ap (λ (h : Held). h.broken) k.holds;
           counts = counts_none calm.0 k.counts;
           device = λ is. both_ways (tells_failure reply) is calm.0;
           comes_on = λ is. both_ways (tells_acceptance reply) is calm.2;
@@ -309,38 +400,36 @@ module _ {D : Type 0} (Honest Works : D → Type 0) (state : D → DiskState) (p
         calm : SaysNeither reply
         calm = subst SaysNeither (sym told) memory_calm
 
-    -- a rule refused it, or memory was wanted
-    ruled_out : (fault : store.Fault) → reply ≡ refusal_of (of_store fault) → IsVerdict (judgement_in (held_of old).kit (held_of old).tables stamp name c) (Some fault)
-        → held_of new ≡ held_of old → Committed (Err fault) → (fault ≡ T.OutOfMemory) ⊎ (fault ≡ T.OutOfMemory → ⊥) → Lasting
-    ruled_out fault told verdict same k (inl is) =
-        let P : store.Fault → Type 0 = λ f. Committed (Err f) in
-        let own = subst P is k in
-        wanting (told ∙ ap (λ (f : store.Fault). refusal_of (of_store f)) is) same own (lawful_want (own.wanting refl))
-    ruled_out fault told verdict same k (inr other) =
-        let by_rule = refused_by_rules (held_of old).kit (held_of old).tables stamp name c fault verdict in
-        let calm = verdict_calm (held_of old).kit (table_named (held_of old).tables name) (length (held_of old).tables) stamp c by_rule.0 by_rule.1 in
-        let Calm : store.Fault → Type 0 = λ f. SaysNeither (refusal_of (of_store f)) in
-        let own = subst SaysNeither (sym told) (subst Calm (sym by_rule.2) calm) in
-        lasts_unchanged (unchanged_by old new fault (λ e. no_failure by_rule.0 (sym by_rule.2 ∙ e)) (λ e. no_full by_rule.0 (sym by_rule.2 ∙ e)) other k.spares) k.carries
-        own (by_commit (Err fault) None k own.2)
+    -- a rule refused it
+    ruled_out : (fault : store.Fault) → (fault ≡ T.DeviceFailed → ⊥) → (fault ≡ T.FileFull → ⊥) → (fault ≡ T.OutOfMemory → ⊥) → Replied (Err fault) → Committed (Err fault) → Lasting
+    ruled_out fault device full memory told k =
+        let own = subst SaysNeither (sym told) (store_calm fault device full) in
+        lasts_unchanged (unchanged_by old new fault device full memory k.spares) k.carries own (by_commit (Err fault) None k own.2 told)
 
-    lasts_by : (taking : Result ℕ store.Fault) → reply ≡ reply_to (text_of (held_of old) name c sheet taking) → Takes (held_of old) stamp name c (held_of new) taking → Committed taking → Lasting
-    lasts_by taking told (Accepted was lawful held_is) k = taken (stamp_after (held_of old).kit (held_of old).tables name c) told lawful held_is k
-    lasts_by taking told (Refused fault was verdict held_is) k = ruled_out fault told verdict held_is k (is_memory fault)
-    lasts_by taking told (Wants was first held_is) k = wanting told held_is k (lawful_want (k.wanting refl))
-    lasts_by taking told (NoRoom was lawful held_is) k = no_space told lawful held_is k
-    lasts_by taking told (Fails was lawful held_is) k = failed told lawful k
-    lasts_by taking told (Again broken held_is) k = both_ways (held_of old).broken broken whole
+    refused_so : (fault : store.Fault) → IsOther fault → Replied (Err fault) → Committed (Err fault) → Lasting
+    refused_so fault (Device is) told k =
+        let own : Committed (Err T.DeviceFailed) = subst (λ (f : store.Fault). Committed (Err f)) is k in
+        failed (subst (λ (f : store.Fault). Replied (Err f)) is told) own
+    refused_so fault (Full is) told k =
+        let own : Committed (Err T.FileFull) = subst (λ (f : store.Fault). Committed (Err f)) is k in
+        no_space (subst (λ (f : store.Fault). Replied (Err f)) is told) own
+    refused_so fault (Memory is) told k =
+        let own : Committed (Err T.OutOfMemory) = subst (λ (f : store.Fault). Committed (Err f)) is k in
+        wanting (subst (λ (f : store.Fault). Replied (Err f)) is told) own (own.wanting refl)
+    refused_so fault (Other device full memory) told k = ruled_out fault device full memory told k
 
-    pub request_lasts : (taking : Result ℕ store.Fault) → reply ≡ reply_to (text_of (held_of old) name c sheet taking) → Committed taking → Lasting
-    request_lasts taking told k = lasts_by taking told (k.takes played) k
+    pub request_lasts : (taking : Result ℕ store.Fault) → (Played → reply ≡ reply_to (text_of (held_of old) name c sheet taking)) → Replied taking → Committed taking → Lasting
+    request_lasts (Ok n) said told k = taken n said told k
+    request_lasts (Err fault) said told k = refused_so fault (which fault) told k
 
-  module _ (stamp : ℕ) (name : List ℕ) (corp : Corp) (short : length line ≤ LONGEST_LINE) (spells : SpellsLine line (L.Best stamp name corp)) (whole : (held_of old).broken ≡ false) (played : GamesArePlayed old) where
+  module _ (stamp : ℕ) (name : List ℕ) (corp : Corp) (short : length line ≤ LONGEST_LINE) (spells : SpellsLine line (L.Best stamp name corp)) (whole : (held_of old).broken ≡ false) where
     abbrev CommittedBest : Result (List ℕ) Fault → Type 0
     CommittedBest outcome = CommitsBest Honest Works state past faults writes syncs old name stamp corp new outcome
 
     -- no best run is found, or one is, whose request is committed
     pub best_lasts : (outcome : Result (List ℕ) Fault) → reply ≡ reply_to outcome → CommittedBest outcome → Lasting
-    best_lasts outcome told (Stays fault lacks same) = lasts_alone same (subst SaysNeither (sym told) (lacks_calm lacks))
-    best_lasts outcome told (Goes_on sheet certificate taking is commits) =
-        request_lasts stamp name (best_run corp sheet certificate) sheet short (AsBest corp sheet certificate spells is refl) whole played taking told commits
+    best_lasts outcome told (Stays fault calm lacks same) =
+        lasts_alone same (subst SaysNeither (sym told) calm) (subst (λ (r : List ℕ). IsIdle (held_of old) line r) (sym told) (Lacks_run stamp name corp fault short spells whole calm))
+    best_lasts outcome told (Goes_on sheet certificate taking result is commits replies text) =
+        request_lasts stamp name (best_run corp sheet certificate) sheet short (OfRun corp sheet certificate spells refl) (λ played. AsBest corp sheet certificate spells (is played) refl) whole
+        taking (λ played. told ∙ ap reply_to (text played)) (subst (λ (r : List ℕ). IsReplyTo (for_table name (best_run corp sheet certificate)) sheet taking r) (sym told) replies) commits

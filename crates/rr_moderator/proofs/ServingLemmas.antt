@@ -16,10 +16,11 @@ use Rattle.rr_moderator.specs.Fault.{refusal_of}
 use Rattle.rr_moderator.specs.Queries.{Answer, fault_of, reply_of}
 use Rattle.rr_store.specs.declared.store.Store.{Store}
 use Rattle.rr_store.specs.Holding.{GamesArePlayed, held_of}
-use Rattle.rr_store.specs.World.{table_named}
+use Rattle.rr_store.specs.World.{for_table, table_named}
 use Rattle.rr_moderator.specs.Best.{IsBestRun}
 use Rattle.rr_moderator.specs.Choosing.{CommitsBest, Stays, Goes_on}
-use Rattle.rr_moderator.specs.Serving.{MeetsBest, Lacks, Finds, text_of}
+use Rattle.rr_moderator.specs.Durability.{IsReplyTo}
+use Rattle.rr_moderator.specs.Serving.{MeetsBest, Lacks, Finds, reply_to, text_of}
 
 -- a query that is refused
 pub reply_refused : (answer : Answer) (fault : Fault) → fault_of answer ≡ Some fault → refusal_of fault ≡ reply_of answer
@@ -35,10 +36,11 @@ pub best_meets : {D : Type 0} (Honest Works : D → Type 0) (state : D → DiskS
     (old : Store D) (name : List ℕ) (stamp : ℕ) (c : Corp) (new : Store D) {outcome : Result (List ℕ) Fault}
     → GamesArePlayed old → CommitsBest Honest Works state past faults writes syncs old name stamp c new outcome
     → MeetsBest (held_of old) stamp name c (held_of new) outcome
-best_meets {D} Honest Works state past faults writes syncs old name stamp c new played (Stays fault lacks same) =
-    Lacks fault lacks (ap (λ (s : Store D). held_of s) same)
-best_meets Honest Works state past faults writes syncs old name stamp c new played (Goes_on sheet certificate taking is commits) =
-    Finds sheet certificate taking is (commits.takes played)
+best_meets {D} Honest Works state past faults writes syncs old name stamp c new played (Stays fault calm lacks same) =
+    Lacks fault (lacks played) (ap (λ (s : Store D). held_of s) same)
+best_meets Honest Works state past faults writes syncs old name stamp c new played (Goes_on sheet certificate taking outcome is commits replies told) =
+    let Meets : Result (List ℕ) Fault → Type 0 = λ o. MeetsBest (held_of old) stamp name c (held_of new) o in
+    subst Meets (sym (told played)) (Finds sheet certificate taking (is played) (commits.takes played))
 
 some_order : (a b : Order) → Some a ≡ Some b → a ≡ b
 some_order a b e = cc
@@ -47,16 +49,17 @@ some_order a b e = cc
 pub best_goes_on : {D : Type 0} (Honest Works : D → Type 0) (state : D → DiskState) (past : D → List DiskState) (faults writes syncs : D → ℕ)
     (old : Store D) (name : List ℕ) (stamp : ℕ) (c : Corp) (new : Store D) (read : Option Order) (order : Order) (sheet certificate shown : List ℕ) (outcome : Result (List ℕ) Fault)
     → read ≡ Some order → read ≡ Some (O.RunBest c sheet certificate) → shown ≡ sheet
-    → IsBestRun (held_of old).kit (table_named (held_of old).tables name) stamp name c sheet certificate
+    → (GamesArePlayed old → IsBestRun (held_of old).kit (table_named (held_of old).tables name) stamp name c sheet certificate)
     → (taking : Result ℕ store.Fault) × Commits Honest Works state past faults writes syncs old name stamp (Play (C.Order order)) new taking
-    × (outcome ≡ text_of (held_of old) name (Play (C.Order order)) shown taking)
+    × IsReplyTo (for_table name (Play (C.Order order))) shown taking (reply_to outcome)
+    × (GamesArePlayed old → outcome ≡ text_of (held_of old) name (Play (C.Order order)) shown taking)
     → CommitsBest Honest Works state past faults writes syncs old name stamp c new outcome
 best_goes_on {D} Honest Works state past faults writes syncs old name stamp c new read order sheet certificate shown outcome given spelled lent is committed =
     let Committed : Order → List ℕ → Type 0 = λ o s. (taking : Result ℕ store.Fault)
     × Commits Honest Works state past faults writes syncs old name stamp (Play (C.Order o)) new taking
-    × (outcome ≡ text_of (held_of old) name (Play (C.Order o)) s taking) in
+    × IsReplyTo (for_table name (Play (C.Order o))) s taking (reply_to outcome)
+    × (GamesArePlayed old → outcome ≡ text_of (held_of old) name (Play (C.Order o)) s taking) in
     let Own : List ℕ → Type 0 = λ s. Committed order s in
     let ByOrder : Order → Type 0 = λ o. Committed o sheet in
     let moved = subst ByOrder (some_order order (O.RunBest c sheet certificate) (sym given ∙ spelled)) (subst Own lent committed) in
-    let So : Result (List ℕ) Fault → Type 0 = λ o. CommitsBest Honest Works state past faults writes syncs old name stamp c new o in
-    subst So (sym moved.2) (Goes_on sheet certificate moved.0 is moved.1)
+    Goes_on sheet certificate moved.0 outcome is moved.1 moved.2 moved.3

@@ -1,5 +1,6 @@
 -- Which replies say that the device failed, or that the file is full.
-use Rattle.std.proofs.Common.{◌≡◌, ℕ, ◌==◌, Bool, true, false, not, List, [], ◌∷◌, ◌++◌, codes, Option, None, Some, Result, Ok, Err, inl, inr, if◌then◌else◌, option_map, nat_le, refl, sym, subst}
+use Rattle.std.proofs.Common.{◌≡◌, ℕ, ◌==◌, Bool, true, false, not, ◌&&◌, List, [], ◌∷◌, ◌++◌, codes, Option, None, Some, Result, Ok, Err, inl, inr, if◌then◌else◌, option_map, nat_le, refl, sym, ap, subst, arith, ◌∙◌}
+use Rattle.std.proofs.lemmas.Bool.Decides.{nat_tests}
 use Rattle.std.specs.Fmt.{digits}
 use Rattle.rr_kit.specs.declared.kit.Kit.{Kit}
 use Rattle.rr_kit.specs.declared.fault.Fault as kit
@@ -23,16 +24,19 @@ use Rattle.rr_tables.specs.declared.records.fault.Fault as judge
 use Rattle.rr_tables.specs.declared.records.fault.Fault.TheVariants as J
 use Rattle.rr_tables.specs.Records.Fault.{of_table}
 use Rattle.rr_tables.specs.Records.World.{TableState, World, opening_verdict, step_judgement, table_named, world_judgement}
+use Rattle.rr_search.specs.declared.fault.Fault as search
+use Rattle.rr_search.specs.declared.fault.Fault.TheVariants as R
 use Rattle.rr_store.specs.declared.fault.Fault as store
 use Rattle.rr_store.specs.declared.fault.Fault.TheVariants as T
 use Rattle.rr_store.specs.Fault.{CountsFailure}
+use Rattle.rr_store.specs.Held.{Held, LacksTable}
 use Rattle.rr_serve.specs.Serving.{tells_failure}
 use Rattle.rr_moderator.specs.declared.fault.Fault.{Fault}
 use Rattle.rr_moderator.specs.declared.fault.Fault.TheVariants as F
-use Rattle.rr_moderator.specs.Answer.{accepted_text, answer_of}
+use Rattle.rr_moderator.specs.Answer.{accepted_with, answer_of}
 use Rattle.rr_moderator.specs.Best.{LacksRun, MayNotRun, HasNone, LacksMemory}
-use Rattle.rr_moderator.specs.Durability.{CountsTold, reaches_file, tells_acceptance, tells_full}
-use Rattle.rr_moderator.specs.Fault.{of_rules, of_store, refusal_of}
+use Rattle.rr_moderator.specs.Durability.{CountsTold, MayAnswer, SaysNeither, reaches_file, tells_acceptance, tells_answer, tells_full}
+use Rattle.rr_moderator.specs.Fault.{of_game, of_history, of_rules, of_search, of_store, refusal_of}
 use Rattle.rr_moderator.specs.Serving.{reply_to}
 use Rattle.rr_moderator.proofs.ServingLemmas.{reply_refused}
 use Rattle.rr_moderator.specs.Queries.{Answer, MayRefuse, MeetsQuery, answer_of_named, answer_of_table, asked_answer, book_answer, cash_answer, due_answer, holds_answer, iou_answer, limit_answer, order_answer, phase_answer, price_answer, privates_answer, query_answer, query_text, reply_of, stamp_answer, trains_answer, turns_answer, allocates, worth_answer}
@@ -55,17 +59,13 @@ counts_told old new (T.Kit fault) h = counts_kit old new fault h
 counts_told old new (T.Game fault) h = counts_game old new fault h
 counts_told old new _ h = h
 
--- that a reply says neither that the device failed, nor that the file is full, nor that a request was taken
-abbrev pub SaysNeither : List ℕ → Type 0
-SaysNeither reply = (tells_failure reply ≡ false) × (tells_full reply ≡ false) × (tells_acceptance reply ≡ false)
-
 -- an acceptance says the last, and neither of the others
-pub accepted_told : (kit : Kit) (name : List ℕ) (t : TableState) (c : Request Command) (sheet : List ℕ) → tells_acceptance (accepted_text kit name t c sheet) ≡ true
-accepted_told kit name t c sheet = refl
+pub accepted_told : (name : List ℕ) (stamp : ℕ) (earned : List (List ℕ)) (sheet : List ℕ) → tells_acceptance (accepted_with name stamp earned sheet) ≡ true
+accepted_told name stamp earned sheet = refl
 
-pub accepted_calm : (kit : Kit) (name : List ℕ) (t : TableState) (c : Request Command) (sheet : List ℕ)
-    → (tells_failure (accepted_text kit name t c sheet) ≡ false) × (tells_full (accepted_text kit name t c sheet) ≡ false)
-accepted_calm kit name t c sheet = (refl, refl)
+pub accepted_calm : (name : List ℕ) (stamp : ℕ) (earned : List (List ℕ)) (sheet : List ℕ)
+    → (tells_failure (accepted_with name stamp earned sheet) ≡ false) × (tells_full (accepted_with name stamp earned sheet) ≡ false)
+accepted_calm name stamp earned sheet = (refl, refl)
 
 -- no refusal says that a request was taken
 pub refusal_calm : (fault : Fault) → tells_acceptance (refusal_of fault) ≡ false
@@ -97,8 +97,8 @@ unfolding digits
 failure_calm = refl
 
 -- what a request that reached the file may be told
-pub accepted_reaches : (kit : Kit) (name : List ℕ) (t : TableState) (c : Request Command) (sheet : List ℕ) → reaches_file (accepted_text kit name t c sheet) ≡ true
-accepted_reaches kit name t c sheet = refl
+pub accepted_reaches : (name : List ℕ) (stamp : ℕ) (earned : List (List ℕ)) (sheet : List ℕ) → reaches_file (accepted_with name stamp earned sheet) ≡ true
+accepted_reaches name stamp earned sheet = refl
 
 pub failure_reaches : reaches_file (refusal_of F.DeviceFailed) ≡ true
 unfolding digits
@@ -131,6 +131,27 @@ unfolding digits
 game_calm U.NoSuchName = (refl, refl, refl)
 game_calm _ = (refl, refl, refl)
 
+kit_calm : (fault : kit.Fault) → SaysNeither (refusal_of (F.Kit fault))
+unfolding digits
+kit_calm I.BadRoster = (refl, refl, refl)
+kit_calm _ = (refl, refl, refl)
+
+-- nor does any other refusal of a store
+pub store_calm : (fault : store.Fault) → (fault ≡ T.DeviceFailed → ⊥) → (fault ≡ T.FileFull → ⊥) → SaysNeither (refusal_of (of_store fault))
+unfolding digits
+store_calm T.DeviceFailed device full = absurd (device refl)
+store_calm T.FileFull device full = absurd (full refl)
+store_calm (T.Kit fault) device full = kit_calm fault
+store_calm (T.Game fault) device full = game_calm fault
+store_calm _ device full = (refl, refl, refl)
+
+-- and of a game
+pub of_game_calm : (fault : Refusal) → SaysNeither (refusal_of (of_game fault))
+unfolding digits
+of_game_calm U.OutOfMemory = (refl, refl, refl)
+of_game_calm U.NoSuchName = (refl, refl, refl)
+of_game_calm _ = (refl, refl, refl)
+
 table_calm : (o : Option hist.Fault) → IsCalm (option_map of_table o)
 unfolding digits
 table_calm None = tt
@@ -160,6 +181,16 @@ step_calm kit (Some t) stamp c verdict is = mapped_calm (request_judgement kit t
 no_certificate_calm : SaysNeither (refusal_of F.NoCertificate)
 unfolding digits
 no_certificate_calm = (refl, refl, refl)
+
+-- nor does a fault of the rules, whatever was played
+pub rules_calm : (fault : judge.Fault) → SaysNeither (refusal_of (of_rules fault))
+unfolding digits
+rules_calm (J.Game fault) = game_calm fault
+rules_calm _ = (refl, refl, refl)
+
+pub search_calm : (fault : search.Fault) → SaysNeither (refusal_of (of_search fault))
+search_calm R.NoCertificate = no_certificate_calm
+search_calm R.OutOfMemory = memory_calm
 
 pub lacks_calm : {kit : Kit} {t : Option TableState} {stamp : ℕ} {name : List ℕ} {c : Corp} {fault : Fault} → LacksRun kit t stamp name c fault → SaysNeither (refusal_of fault)
 lacks_calm {kit} {t} {stamp} {name} {c} (MayNotRun fault h) =
@@ -231,3 +262,59 @@ meets_calm kit tables query (Err fault) meets = by_memory (allocates query) meet
     by_memory true (inl is) = subst SaysNeither (sym (reply_refused (query_answer kit tables query) fault is)) (query_calm kit tables query)
     by_memory true (inr wants) = subst (λ (f : Fault). SaysNeither (refusal_of f)) (sym wants.1) memory_calm
     by_memory false is = subst SaysNeither (sym (reply_refused (query_answer kit tables query) fault is)) (query_calm kit tables query)
+
+-- an answer to a query says nothing of them
+
+first_is : (n m : ℕ) → (n == m) ≡ true → n ≡ m
+first_is n m h = grind (arith, nat_tests)
+
+and_first : (a b : Bool) → (a && b) ≡ true → a ≡ true
+and_first true b h = refl
+and_first false b h = absurd cc
+
+-- its first byte is the sign
+first_sign : (c : ℕ) (rest : List ℕ) → tells_answer (c ∷ rest) ≡ true → 61 ≡ c
+first_sign c rest h = first_is 61 c (and_first (61 == c) _ h)
+
+pub answer_calm : (text : List ℕ) → tells_answer text ≡ true → SaysNeither text
+answer_calm [] h = absurd cc
+answer_calm (c ∷ rest) h = subst (λ (n : ℕ). SaysNeither (n ∷ rest)) (first_sign c rest h) (refl, refl, refl)
+
+pub may_answer_calm : (outcome : Result (List ℕ) Fault) → MayAnswer outcome → SaysNeither (reply_to outcome)
+may_answer_calm (Ok text) h = answer_calm text h
+may_answer_calm (Err fault) h = h
+
+-- an answer is told as one, and so it is with more behind it
+
+pub answer_told : (words : List (List ℕ)) → tells_answer (answer_of words) ≡ true
+answer_told [] = refl
+answer_told (word ∷ words) = refl
+
+pub told_more : (text more : List ℕ) → tells_answer text ≡ true → tells_answer (text ++ more) ≡ true
+told_more [] more h = absurd cc
+told_more (c ∷ rest) more h = subst (λ (n : ℕ). tells_answer (n ∷ (rest ++ more)) ≡ true) (first_sign c rest h) refl
+
+pub told_again : (old new more : List ℕ) → tells_answer old ≡ true → new ≡ old ++ more → tells_answer new ≡ true
+told_again old new more told is = subst (λ (text : List ℕ). tells_answer text ≡ true) (sym is) (told_more old more told)
+
+-- so it is of what begins with the sign, where nothing stood
+pub told_behind : (before begun new front more : List ℕ) → before ≡ [] → begun ≡ before ++ front → tells_answer front ≡ true → new ≡ begun ++ more → tells_answer new ≡ true
+told_behind before begun new front more empty begins told is =
+    subst (λ (text : List ℕ). tells_answer text ≡ true) (sym (is ∙ ap (λ (l : List ℕ). l ++ more) (begins ∙ ap (λ (l : List ℕ). l ++ front) empty))) (told_more front more told)
+
+pub told_words : (text : List ℕ) (words : List (List ℕ)) → text ≡ answer_of words → tells_answer text ≡ true
+told_words text words is = subst (λ (t : List ℕ). tells_answer t ≡ true) (sym is) (answer_told words)
+
+pub told_sign : (text rest : List ℕ) → text ≡ codes "=" ++ rest → tells_answer text ≡ true
+told_sign text rest is = subst (λ (t : List ℕ). tells_answer t ≡ true) (sym is) refl
+
+-- that a store lacks a table says nothing of them, nor do the refusals of a turn's entries
+pub lacks_table_calm : (held : Held) (name : List ℕ) (fault : store.Fault) → LacksTable held name fault → SaysNeither (refusal_of (of_store fault))
+lacks_table_calm held name T.DeviceFailed lacks = absurd lacks
+lacks_table_calm held name T.FileFull lacks = absurd lacks
+lacks_table_calm held name fault lacks = store_calm fault (λ e. absurd (cc e)) (λ e. absurd (cc e))
+
+pub history_calm : (fault : hist.Fault) → SaysNeither (refusal_of (of_history fault))
+unfolding digits
+history_calm H.TurnNotKept = (refl, refl, refl)
+history_calm _ = (refl, refl, refl)

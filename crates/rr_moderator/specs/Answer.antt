@@ -30,11 +30,14 @@ runs_trains request = false
 abbrev pub earned_words : Kit → TableState → Request Command → List (List ℕ)
 earned_words kit t request = if runs_trains request then signed_decimal (play kit t.commands).revenue.0 ∷ [] else []
 
--- the reply to an accepted request to a table: with the table's new stamp, and behind a run what the trains earned; and with
--- the words of a sheet, where there are any
+-- the reply `ok`: with the table's new stamp, what the trains earned, if they ran, and the words of a sheet, where there are any
+abbrev pub accepted_with : List ℕ → ℕ → List (List ℕ) → List ℕ → List ℕ
+accepted_with name stamp earned sheet =
+    codes "ok " ++ name ++ codes " " ++ decimal stamp ++ spaced earned ++ added sheet ++ codes "\n"
+
+-- the reply to an accepted request to a table
 abbrev pub accepted_text : Kit → List ℕ → TableState → Request Command → List ℕ → List ℕ
-accepted_text kit name t request sheet =
-    codes "ok " ++ name ++ codes " " ++ decimal t.stamp ++ spaced (earned_words kit t request) ++ added sheet ++ codes "\n"
+accepted_text kit name t request sheet = accepted_with name t.stamp (earned_words kit t request) sheet
 
 -- an answer without its LF: the sign and the words, a dash in the place of none
 abbrev pub answer_of : List (List ℕ) → List ℕ

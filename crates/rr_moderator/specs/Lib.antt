@@ -4,7 +4,7 @@ pub mod Queries
 pub mod Best
 pub mod BestLaws
 pub mod Serving
-pub mod Choosing
 pub mod Durability
+pub mod Choosing
 pub mod Holding
 pub mod Alone

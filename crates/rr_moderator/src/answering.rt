@@ -1,6 +1,6 @@
 // The answers to queries, and the reply to an accepted request.
 ghost use Rattle.rr_moderator.specs.declared.reply.TheConstants.{REPLY_ROOM};
-ghost use Rattle.std.specs.Prelude.{◌≡◌, ◌≢◌, false, ◌+◌, ◌*◌, ◌≤◌, ◌++◌, List, ℕ, [], ◌∷◌, None, MatchOption, MatchResult, OnOk, codes, decimal, filter, length, map, replicate, slice_get, take};
+ghost use Rattle.std.specs.Prelude.{◌≡◌, ◌≢◌, true, false, IfErr, ◌+◌, ◌*◌, ◌≤◌, ◌++◌, List, ℕ, [], ◌∷◌, None, MatchOption, MatchResult, OnOk, codes, decimal, filter, length, map, replicate, slice_get, take};
 ghost use Rattle.std.specs.Option.{option_copied};
 ghost use Rattle.rr_books.specs.Shares.{is_at};
 ghost use Rattle.rr_roster.specs.Company.{corp_name, kind_name, private_name};
@@ -15,7 +15,8 @@ ghost use Rattle.rr_desk.specs.Position.Position.{IsPositionOf};
 ghost use Rattle.rr_orders.specs.Texts.{added};
 ghost use Rattle.rr_game.specs.Names.{trains_place};
 ghost use Rattle.rr_moderator.specs.Queries.{MayRefuseBy, MeetsQuery, Writes, asked_answer, book_answer, cash_answer, due_answer, due_words, holds_answer, iou_answer, limit_answer, order_answer, phase_answer, price_answer, privates_answer, query_answer, reply_of, stamp_answer, step_word, trains_answer, trains_words, turns_answer, allocates, worth_answer};
-ghost use Rattle.rr_moderator.specs.Fault.{of_history};
+ghost use Rattle.rr_moderator.specs.Durability.{MayAnswer, SaysNeither, tells_answer};
+ghost use Rattle.rr_moderator.specs.Fault.{of_history, refusal_of};
 ghost use Rattle.rr_moderator.specs.Serving.{outcome_of};
 ghost use Rattle.rr_entries.specs.Words.{book_words, joined, player_word, spaced};
 ghost use Rattle.rr_game.specs.History.TurnEntries.{book_verdict, turn_entries};
@@ -102,8 +103,9 @@ pub(crate) fn answer<D: Disk + Drop>(
     reply: &mut Reply,
 ) -> Result<(), Fault>
     requires { (held_of store.now).broken ≡ false }
-    ensures { GamesArePlayed store.now →
+    ensures meets { GamesArePlayed store.now →
         MeetsQuery (held_of store.now).kit (held_of store.now).tables query.now (outcome_of result reply.new) }
+    ensures may { MayAnswer (outcome_of result reply.new) }
 {
     reply.clear();
     match book_asked(query) {
@@ -136,8 +138,9 @@ fn write_book<D: Disk + Drop>(
 ) -> Result<(), Fault>
     requires whole { (held_of store.now).broken ≡ false }
     requires empty { reply.old ≡ [] }
-    ensures { GamesArePlayed store.now →
+    ensures meets { GamesArePlayed store.now →
         MeetsQuery (held_of store.now).kit (held_of store.now).tables (Query.Book table.now turn) (outcome_of result reply.new) }
+    ensures may { MayAnswer (outcome_of result reply.new) }
 {
     let table = store.table(table)?;
     let entries = entries_of(alloc, table, turn, store.kit())?;
@@ -147,7 +150,8 @@ fn write_book<D: Disk + Drop>(
 
 /// The entries that the commands of a table's turn added.
 fn entries_of(alloc: Global, table: &Table, turn: u64, kit: &Kit) -> Result<Vec<Entries>, Fault>
-    ensures { IsPlayed kit.now table.now → MatchResult result
+    ensures calm { IfErr result (λ fault. SaysNeither (refusal_of fault)) }
+    ensures entries { IsPlayed kit.now table.now → MatchResult result
         (λ all. (book_verdict kit.now (kept_in table.now) turn ≡ None)
         × (joined all.items ≡ turn_entries kit.now (kept_in table.now).commands turn))
         (λ fault. MayRefuseBy (book_answer kit.now turn (kept_in table.now)) fault) }
@@ -195,6 +199,7 @@ fn write_answer<D: Disk + Drop>(
     requires empty { reply.old ≡ [] }
     requires bounded { allocates query.now ≡ false }
     ensures answer { GamesArePlayed store.now → Writes (query_answer (held_of store.now).kit (held_of store.now).tables query.now) result reply.new }
+    ensures may { MayAnswer (outcome_of result reply.new) }
     ensures bounded { length reply.new ≤ 1100 }
 {
     match query {
@@ -314,6 +319,7 @@ fn name_at<D: Disk + Drop>(store: &Store<D>, place: usize) -> Option<&Name>
 fn write_stamp(table: &Table, reply: &mut Reply)
     requires { reply.old ≡ [] }
     ensures text { reply_of (stamp_answer (kept_in table.now)) ≡ reply.new ++ codes "\n" }
+    ensures front { tells_answer reply.new ≡ true }
     ensures bounded { length reply.new ≤ 40 }
 {
     reply.text(b"= ");
@@ -325,6 +331,7 @@ fn write_turns(table: &Table, reply: &mut Reply)
     requires { reply.old ≡ [] }
     ensures text { (kit : Kit) → IsPlayed kit table.now →
         reply_of (turns_answer kit (kept_in table.now)) ≡ reply.new ++ codes "\n" }
+    ensures front { tells_answer reply.new ≡ true }
     ensures bounded { length reply.new ≤ 50 }
 {
     reply.text(b"= ");
@@ -338,6 +345,7 @@ fn write_table_due(table: &Table, kit: &Kit, reply: &mut Reply)
     requires { reply.old ≡ [] }
     ensures text { IsPlayed kit.now table.now →
         reply_of (due_answer kit.now (kept_in table.now)) ≡ reply.new ++ codes "\n" }
+    ensures front { tells_answer reply.new ≡ true }
     ensures bounded { length reply.new ≤ 40 }
 {
     write_due(table.game(), table.game().due(kit), reply);
@@ -348,6 +356,7 @@ fn write_cash(table: &Table, of: &Account, kit: &Kit, reply: &mut Reply) -> Resu
     requires { reply.old ≡ [] }
     ensures answer { IsPlayed kit.now table.now →
         Writes (cash_answer kit.now of.now (kept_in table.now)) result reply.new }
+    ensures may { MayAnswer (outcome_of result reply.new) }
     ensures bounded { length reply.new ≤ 40 }
 {
     let money = table.game().cash(of, kit)?;
@@ -361,6 +370,7 @@ fn write_limit(table: &Table, reply: &mut Reply)
     requires { reply.old ≡ [] }
     ensures text { (kit : Kit) → IsPlayed kit table.now →
         reply_of (limit_answer kit (kept_in table.now)) ≡ reply.new ++ codes "\n" }
+    ensures front { tells_answer reply.new ≡ true }
     ensures bounded { length reply.new ≤ 40 }
 {
     reply.text(b"= ");
@@ -372,6 +382,7 @@ fn write_cheapest(table: &Table, kit: &Kit, reply: &mut Reply)
     requires { reply.old ≡ [] }
     ensures text { IsPlayed kit.now table.now →
         reply_of (asked_answer kit.now (kept_in table.now)) ≡ reply.new ++ codes "\n" }
+    ensures front { tells_answer reply.new ≡ true }
     ensures bounded { length reply.new ≤ 40 }
 {
     write_asked(table.game().asked(kit), reply);
@@ -382,6 +393,7 @@ fn write_owner(table: &Table, of: &Owner, reply: &mut Reply) -> Result<(), Fault
     requires { reply.old ≡ [] }
     ensures answer { (kit : Kit) → IsPlayed kit table.now →
         Writes (privates_answer kit of.now (kept_in table.now)) result reply.new }
+    ensures may { MayAnswer (outcome_of result reply.new) }
     ensures bounded { length reply.new ≤ 40 }
 {
     let place = table.game().place(of)?;
@@ -394,6 +406,7 @@ fn write_holds(table: &Table, player: &Name, corp: Corp, reply: &mut Reply) -> R
     requires { reply.old ≡ [] }
     ensures answer { (kit : Kit) → IsPlayed kit table.now →
         Writes (holds_answer kit player.now corp (kept_in table.now)) result reply.new }
+    ensures may { MayAnswer (outcome_of result reply.new) }
     ensures bounded { length reply.new ≤ 40 }
 {
     let percent = table.game().holds(player, corp)?;
@@ -407,6 +420,7 @@ fn write_price(table: &Table, corp: Corp, kit: &Kit, reply: &mut Reply)
     requires { reply.old ≡ [] }
     ensures text { IsPlayed kit.now table.now →
         reply_of (price_answer kit.now corp (kept_in table.now)) ≡ reply.new ++ codes "\n" }
+    ensures front { tells_answer reply.new ≡ true }
     ensures bounded { length reply.new ≤ 70 }
 {
     write_quote(table.game().price(corp, kit), reply);
@@ -417,6 +431,7 @@ fn write_order(table: &Table, kit: &Kit, reply: &mut Reply)
     requires { reply.old ≡ [] }
     ensures text { IsPlayed kit.now table.now →
         reply_of (order_answer kit.now (kept_in table.now)) ≡ reply.new ++ codes "\n" }
+    ensures front { tells_answer reply.new ≡ true }
     ensures bounded { length reply.new ≤ 50 }
 {
     write_corps(table.game().order(kit).as_slice(), reply);
@@ -501,6 +516,7 @@ fn write_phase(table: &Table, reply: &mut Reply)
     requires { reply.old ≡ [] }
     ensures text { (kit : Kit) → IsPlayed kit table.now →
         reply_of (phase_answer kit (kept_in table.now)) ≡ reply.new ++ codes "\n" }
+    ensures front { tells_answer reply.new ≡ true }
     ensures bounded { length reply.new ≤ 40 }
 {
     write_kind(table.game().phase(), reply);
@@ -521,6 +537,7 @@ fn write_trains(table: &Table, of: TrainHolder, reply: &mut Reply)
     requires { reply.old ≡ [] }
     ensures text { (kit : Kit) → IsPlayed kit table.now →
         reply_of (trains_answer kit of (kept_in table.now)) ≡ reply.new ++ codes "\n" }
+    ensures front { tells_answer reply.new ≡ true }
     ensures bounded { length reply.new ≤ 400 }
 {
     write_trains_of(table.game(), of, reply);
@@ -531,6 +548,7 @@ fn write_trains_of(game: &Game, of: TrainHolder, reply: &mut Reply)
     requires { reply.old ≡ [] }
     ensures text { (book : Book) → IsPositionOf book game.now.standing.position →
         reply.new ≡ answer_of (trains_words (train_holder book) (trains_place of)) }
+    ensures front { tells_answer reply.new ≡ true }
     ensures bounded { length reply.new ≤ 400 }
 {
     reply.text(b"=");
@@ -566,6 +584,7 @@ fn write_iou(table: &Table, kit: &Kit, reply: &mut Reply)
     requires { reply.old ≡ [] }
     ensures text { IsPlayed kit.now table.now →
         reply_of (iou_answer kit.now (kept_in table.now)) ≡ reply.new ++ codes "\n" }
+    ensures front { tells_answer reply.new ≡ true }
     ensures bounded { length reply.new ≤ 40 }
 {
     reply.text(b"= ");
@@ -577,6 +596,7 @@ fn write_worth(table: &Table, player: &Name, kit: &Kit, reply: &mut Reply) -> Re
     requires { reply.old ≡ [] }
     ensures answer { IsPlayed kit.now table.now →
         Writes (worth_answer kit.now player.now (kept_in table.now)) result reply.new }
+    ensures may { MayAnswer (outcome_of result reply.new) }
     ensures bounded { length reply.new ≤ 40 }
 {
     let worth = table.game().worth(player, kit)?;
@@ -642,6 +662,7 @@ fn write_owned(game: &Game, place: Place, private: Private, reply: &mut Reply)
 /// Writes the mark of an empty answer, if no word was written.
 fn write_nothing(reply: &mut Reply)
     ensures text { (words : List (List ℕ)) → reply.old ≡ codes "=" ++ spaced words → reply.new ≡ answer_of words }
+    ensures front { tells_answer reply.old ≡ true → tells_answer reply.new ≡ true }
     ensures bounded { length reply.new ≤ length reply.old + 2 }
 {
     if reply.as_bytes().len() != 1 {

@@ -2,9 +2,10 @@
 //!
 //! Stands on `rr_store`, `rr_search` and `rr_serve`. Its promises:
 //!
-//! - `answer`, `line` and `serve` give exactly the replies that `Answers` allows, and lose nothing that was
-//!   acknowledged (`Lasts`), for a store whose games in memory are what their commands play. Of all queries only the
-//!   one for a turn's entries may be answered 70 (`MeetsQuery`).
+//! - `answer`, `line` and `serve` lose nothing that was acknowledged, and make at most one commit for a line, whose
+//!   result the reply reports, whatever the file held (`Lasts`).
+//! - They give exactly the replies that `Answers` allows, if the games in memory are what their commands play. Then only
+//!   the query for a turn's entries may be answered 70 (`MeetsQuery`).
 //! - All best runs earn the same, and no rule refuses one. `open` returns a right kit, and the tables for which the
 //!   file stands.
 #![tactic(auto)]

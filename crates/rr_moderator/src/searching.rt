@@ -1,11 +1,13 @@
 //! The search for the best run of a corporation at a table.
 ghost use Rattle.rr_words.specs.declared.line.TheConstants.{LONGEST_LINE};
-ghost use Rattle.std.specs.Prelude.{◌≡◌, ◌+◌, ◌≤◌, false, None, Some, IfOk, MatchResult, decimal, length};
+ghost use Rattle.std.specs.Prelude.{◌≡◌, ◌+◌, ◌≤◌, false, None, Some, IfErr, IfOk, MatchResult, decimal, length};
 ghost use Rattle.rr_game.specs.History.Tables.{IsPlayed, kept_in};
 ghost use Rattle.rr_orders.specs.Order.{SpellsOrder};
 ghost use Rattle.rr_orders.specs.declared.order.Order.TheVariants.{RunBest};
 ghost use Rattle.rr_store.specs.Holding.{GamesArePlayed, held_of};
 ghost use Rattle.rr_store.specs.World.{table_named};
+ghost use Rattle.rr_moderator.specs.Durability.{SaysNeither};
+ghost use Rattle.rr_moderator.specs.Fault.{refusal_of};
 ghost use Rattle.rr_moderator.specs.Best.{IsBestRun, LacksRun, room_behind, run_verdict};
 
 use crate::fault::Fault;
@@ -33,6 +35,7 @@ pub(crate) fn find_best<D: Disk + Drop>(
     requires { (held_of store.now).broken ≡ false }
     ensures words { IfOk result (λ run. SpellsOrder run.words (RunBest corp run.sheet run.certificate)) }
     ensures short { IfOk result (λ run. length run.sheet ≤ LONGEST_LINE) }
+    ensures calm { IfErr result (λ fault. SaysNeither (refusal_of fault)) }
     ensures found { GamesArePlayed store.now → MatchResult result
         (λ run. IsBestRun (held_of store.now).kit (table_named (held_of store.now).tables name.now) stamp name.now corp run.sheet run.certificate)
         (λ fault. LacksRun (held_of store.now).kit (table_named (held_of store.now).tables name.now) stamp name.now corp fault) }

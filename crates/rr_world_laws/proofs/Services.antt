@@ -197,7 +197,7 @@ module _ {D : Type 0} (Honest Works : D → Type 0) (state : D → DiskState) (p
   -- one line
   module _ (s t : Told D) (line : List ℕ) (one : One s line t) (h : Honest (disk t)) where
     pub still : (held_of s.0).broken ≡ true → IsUnchanged s.0 t.0
-    still broken = one.1.untouched (λ may. let both : true ≡ false = sym broken ∙ may.1.whole in cc both)
+    still broken = one.1.untouched one.0.1 (λ may. let both : true ≡ false = sym broken ∙ may.1.whole in cc both)
 
     pub carries_on : Carried s → Carried t
     carries_on carried = λ whole. by_broken whole (held_of s.0).broken refl
@@ -223,14 +223,14 @@ module _ {D : Type 0} (Honest Works : D → Type 0) (state : D → DiskState) (p
 
     module _ (moments : List DiskState) (passes : Moments s t moments) where
       made_by : CommitsOnce Honest Works state past faults writes syncs s.0 line one.1.pending t.0 t.1 → Made
-      made_by (Makes_none same calm) =
+      made_by (Makes_none idle same calm) =
           record {
             events = [];
             called = subst (λ (x : Store D). Called (Has s.0) [] (Has x)) (sym same) (Ended (Has s.0));
             commits = tt;
             takes = sym (ap (λ (b : Bool). accepted_of b one.1.pending) calm);
           }
-      made_by (Makes_one asked stamp sheet result asks commits tells) =
+      made_by (Makes_one asked stamp sheet result spells asks commits tells text) =
           record {
             events = Commit asked moments (state (disk t)) (ending_of result) ∷ [];
             called = Goes_on _ _ _ _ _ (Returns _ _ _ _ _ _ (By_commit s.0 t.0 asked.name stamp asked.request result moments commits h passes)) (Ended (Has t.0));
@@ -373,8 +373,8 @@ module _ {D : Type 0} (Honest Works : D → Type 0) (state : D → DiskState) (p
     module _ (s : Told D) (line : List ℕ) (lines : List (List ℕ)) (reply : List ℕ) (replies : List (List ℕ)) (t : Told D)
         (way : All s (line ∷ lines) (reply ∷ replies) t) (h : Honest (disk way.0)) (moments : List DiskState) (passes : Moments s way.0 moments) (p : P moments) where
       cut_by : CommitsOnce Honest Works state past faults writes syncs s.0 (taken line) way.1.1.pending way.0.0 way.0.1 → CutAt 0 s (line ∷ lines) (reply ∷ replies) t way
-      cut_by (Makes_none same calm) = absurd (not_empty s way.0 moments (ap (λ (x : Store D). disk_of x) same) passes p)
-      cut_by (Makes_one asked stamp sheet result asks commits tells) =
+      cut_by (Makes_none idle same calm) = absurd (not_empty s way.0 moments (ap (λ (x : Store D). disk_of x) same) passes p)
+      cut_by (Makes_one asked stamp sheet result spells asks commits tells text) =
           let cut = cuts s.0 way.0.0 asked stamp result moments commits h passes p in
           record {
             line = line;
@@ -382,7 +382,7 @@ module _ {D : Type 0} (Honest Works : D → Type 0) (state : D → DiskState) (p
             stamp = stamp;
             sheet = sheet;
             asked = asked;
-            asks = asks;
+            asks = asks way.1.0.1;
             front = [];
             commits = tt;
             takes = refl;

@@ -92,11 +92,11 @@ module _ {D : Type 0} (Honest Works : D → Type 0) (state : D → DiskState) (p
         subst (HeldBehind (held_of s.0) asked (held_of t.0)) (sym (commits.again.1 was)) (ap (λ (x : Held). x.kit) same, ap (λ (x : Held). x.tables) same)
 
     led_by : CommitsOnce Honest Works state past faults writes syncs s.0 line one.1.pending t.0 t.1 → Led s (accepted_of (tells_acceptance (told t)) one.1.pending) t
-    led_by (Makes_none same calm) = (
+    led_by (Makes_none idle same calm) = (
       ap (λ (x : Store D). (held_of x).kit) same,
       subst (λ (b : Bool). Follows (kit s) (tables s) (accepted_of b one.1.pending) (tables t)) (sym calm) (ap (λ (x : Store D). (held_of x).tables) same),
     )
-    led_by (Makes_one asked stamp sheet result asks commits tells) =
+    led_by (Makes_one asked stamp sheet result spells asks commits tells text) =
         led_by_commit asked stamp result commits tells (held_by (held_of s.0).broken refl asked stamp result commits)
 
     line_leads : Led s (accepted_of (tells_acceptance (told t)) one.1.pending) t
@@ -146,7 +146,7 @@ module _ {D : Type 0} (Honest Works : D → Type 0) (state : D → DiskState) (p
           are = leaves.goes_on;
           led = refl;
           pending = way.1.1.pending;
-          pends = way.1.1.pends;
+          pends = way.1.1.pends way.1.0.1;
           each = leaves.each;
         }
     at_first_line true was =
@@ -159,7 +159,7 @@ module _ {D : Type 0} (Honest Works : D → Type 0) (state : D → DiskState) (p
           are = same_moments Honest Works state past faults writes syncs texts s way.0 same;
           led = refl;
           pending = way.1.1.pending;
-          pends = way.1.1.pends;
+          pends = way.1.1.pends way.1.0.1;
           each = tt;
         }
 

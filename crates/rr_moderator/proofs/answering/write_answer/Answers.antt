@@ -5,6 +5,7 @@ use Rattle.rr_moderator.specs.Queries.{asked_answer, cash_answer, due_answer, ho
 use Rattle.rr_game.specs.History.Tables.{kept_in}
 use Rattle.rr_store.specs.Holding.{held_of}
 use Rattle.rr_moderator.proofs.Replies.{refuses_at, writes_at, written}
+use Rattle.rr_moderator.proofs.Telling.{lacks_table_calm, told_words}
 use Rattle.rr_moderator.proofs.answering.write_answer.Goals as goal
 
 pub returns-in-Tables-clause-answer : goal.returns-in-Tables-clause-answer
@@ -105,3 +106,76 @@ returns-in_ok-table-in-Order-clause-answer g c = λ played.
 pub returns-in_ok-table-in-Worth-clause-answer : goal.returns-in_ok-table-in-Worth-clause-answer
 returns-in_ok-table-in-Worth-clause-answer g c = λ played.
     rw (c.in-Worth.is, ← c.kit-in-Worth.ensures) (writes_at (held_of c.args.store.now).tables c.in-Worth.table (worth_answer c.kit-in-Worth.result.now c.in-Worth.player) (kept_in c.in_ok-table-in-Worth.field-0.now) c.write_worth.result c.write_worth.new.reply c.in_ok-table-in-Worth.ensures.found.1 (c.write_worth.ensures.answer (rw c.kit-in-Worth.ensures (c.in_ok-table-in-Worth.ensures.played played))))
+
+pub returns-in_err-table-in-Stamp-clause-may : goal.returns-in_err-table-in-Stamp-clause-may
+returns-in_err-table-in-Stamp-clause-may g c =
+    let p = err_from_is_err_and c.from_residual.result c.from_residual.ensures.1 in
+    rw (p.1, p.2) (lacks_table_calm (held_of c.args.store.now) c.in-Stamp.table _ c.in_err-table-in-Stamp.ensures.found)
+
+pub returns-in_err-table-in-Turns-clause-may : goal.returns-in_err-table-in-Turns-clause-may
+returns-in_err-table-in-Turns-clause-may g c =
+    let p = err_from_is_err_and c.from_residual-in_err-table-in-Turns.result c.from_residual-in_err-table-in-Turns.ensures.1 in
+    rw (p.1, p.2) (lacks_table_calm (held_of c.args.store.now) c.in-Turns.table _ c.in_err-table-in-Turns.ensures.found)
+
+pub returns-in_err-table-in-Due-clause-may : goal.returns-in_err-table-in-Due-clause-may
+returns-in_err-table-in-Due-clause-may g c =
+    let p = err_from_is_err_and c.from_residual-in_err-table-in-Due.result c.from_residual-in_err-table-in-Due.ensures.1 in
+    rw (p.1, p.2) (lacks_table_calm (held_of c.args.store.now) c.in-Due.table _ c.in_err-table-in-Due.ensures.found)
+
+pub returns-in_err-table-in-Cash-clause-may : goal.returns-in_err-table-in-Cash-clause-may
+returns-in_err-table-in-Cash-clause-may g c =
+    let p = err_from_is_err_and c.from_residual-in_err-table-in-Cash.result c.from_residual-in_err-table-in-Cash.ensures.1 in
+    rw (p.1, p.2) (lacks_table_calm (held_of c.args.store.now) c.in-Cash.table _ c.in_err-table-in-Cash.ensures.found)
+
+pub returns-in_err-table-in-Limit-clause-may : goal.returns-in_err-table-in-Limit-clause-may
+returns-in_err-table-in-Limit-clause-may g c =
+    let p = err_from_is_err_and c.from_residual-in_err-table-in-Limit.result c.from_residual-in_err-table-in-Limit.ensures.1 in
+    rw (p.1, p.2) (lacks_table_calm (held_of c.args.store.now) c.in-Limit.table _ c.in_err-table-in-Limit.ensures.found)
+
+pub returns-in_err-table-in-Asked-clause-may : goal.returns-in_err-table-in-Asked-clause-may
+returns-in_err-table-in-Asked-clause-may g c =
+    let p = err_from_is_err_and c.from_residual-in_err-table-in-Asked.result c.from_residual-in_err-table-in-Asked.ensures.1 in
+    rw (p.1, p.2) (lacks_table_calm (held_of c.args.store.now) c.in-Asked.table _ c.in_err-table-in-Asked.ensures.found)
+
+pub returns-in_err-table-in-Privates-clause-may : goal.returns-in_err-table-in-Privates-clause-may
+returns-in_err-table-in-Privates-clause-may g c =
+    let p = err_from_is_err_and c.from_residual-in_err-table-in-Privates.result c.from_residual-in_err-table-in-Privates.ensures.1 in
+    rw (p.1, p.2) (lacks_table_calm (held_of c.args.store.now) c.in-Privates.table _ c.in_err-table-in-Privates.ensures.found)
+
+pub returns-in_err-table-in-Holds-clause-may : goal.returns-in_err-table-in-Holds-clause-may
+returns-in_err-table-in-Holds-clause-may g c =
+    let p = err_from_is_err_and c.from_residual-in_err-table-in-Holds.result c.from_residual-in_err-table-in-Holds.ensures.1 in
+    rw (p.1, p.2) (lacks_table_calm (held_of c.args.store.now) c.in-Holds.table _ c.in_err-table-in-Holds.ensures.found)
+
+pub returns-in_err-table-in-Price-clause-may : goal.returns-in_err-table-in-Price-clause-may
+returns-in_err-table-in-Price-clause-may g c =
+    let p = err_from_is_err_and c.from_residual-in_err-table-in-Price.result c.from_residual-in_err-table-in-Price.ensures.1 in
+    rw (p.1, p.2) (lacks_table_calm (held_of c.args.store.now) c.in-Price.table _ c.in_err-table-in-Price.ensures.found)
+
+pub returns-in_err-table-in-Order-clause-may : goal.returns-in_err-table-in-Order-clause-may
+returns-in_err-table-in-Order-clause-may g c =
+    let p = err_from_is_err_and c.from_residual-in_err-table-in-Order.result c.from_residual-in_err-table-in-Order.ensures.1 in
+    rw (p.1, p.2) (lacks_table_calm (held_of c.args.store.now) c.in-Order.table _ c.in_err-table-in-Order.ensures.found)
+
+pub returns-in_err-table-in-Phase-clause-may : goal.returns-in_err-table-in-Phase-clause-may
+returns-in_err-table-in-Phase-clause-may g c =
+    let p = err_from_is_err_and c.from_residual-in_err-table-in-Phase.result c.from_residual-in_err-table-in-Phase.ensures.1 in
+    rw (p.1, p.2) (lacks_table_calm (held_of c.args.store.now) c.in-Phase.table _ c.in_err-table-in-Phase.ensures.found)
+
+pub returns-in_err-table-in-Trains-clause-may : goal.returns-in_err-table-in-Trains-clause-may
+returns-in_err-table-in-Trains-clause-may g c =
+    let p = err_from_is_err_and c.from_residual-in_err-table-in-Trains.result c.from_residual-in_err-table-in-Trains.ensures.1 in
+    rw (p.1, p.2) (lacks_table_calm (held_of c.args.store.now) c.in-Trains.table _ c.in_err-table-in-Trains.ensures.found)
+
+pub returns-in_err-table-in-Iou-clause-may : goal.returns-in_err-table-in-Iou-clause-may
+returns-in_err-table-in-Iou-clause-may g c =
+    let p = err_from_is_err_and c.from_residual-in_err-table-in-Iou.result c.from_residual-in_err-table-in-Iou.ensures.1 in
+    rw (p.1, p.2) (lacks_table_calm (held_of c.args.store.now) c.in-Iou.table _ c.in_err-table-in-Iou.ensures.found)
+
+pub returns-in_err-table-in-Worth-clause-may : goal.returns-in_err-table-in-Worth-clause-may
+returns-in_err-table-in-Worth-clause-may g c =
+    let p = err_from_is_err_and c.from_residual-in_err-table-in-Worth.result c.from_residual-in_err-table-in-Worth.ensures.1 in
+    rw (p.1, p.2) (lacks_table_calm (held_of c.args.store.now) c.in-Worth.table _ c.in_err-table-in-Worth.ensures.found)
+
+pub returns-in-Tables-clause-may : goal.returns-in-Tables-clause-may
+returns-in-Tables-clause-may g c = told_words _ _ c.write_names.ensures.text

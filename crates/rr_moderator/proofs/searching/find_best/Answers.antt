@@ -7,6 +7,7 @@ use Rattle.rr_store.specs.Holding.{held_of}
 use Rattle.rr_store.specs.World.{table_named}
 use Rattle.rr_moderator.specs.Best.{MayNotRun, book_of}
 use Rattle.rr_moderator.proofs.BestLemmas.{found_run, search_lacks, words_short}
+use Rattle.rr_moderator.proofs.Telling.{rules_calm, search_calm}
 use Rattle.rr_moderator.proofs.searching.find_best.Goals as goal
 
 pub returns-in_err-table-clause-found : goal.returns-in_err-table-clause-found
@@ -44,3 +45,13 @@ returns-clause-found g c = λ played.
     let found = c.in_ok-run.ensures.found (book_of held.kit table) shown in
     found_run c.kit.result.now held.kit (table_named held.tables c.args.name.now) table c.args.stamp c.args.name.now c.args.corp c.in_ok-run.run' c.room_behind-most.result c.kit.ensures
     there.0 there.2 c.in_ok-run.ensures.spelled c.in_ok-run.ensures.fits c.room_behind-most.ensures.whole found.0
+
+pub returns-in_err-table-clause-calm : goal.returns-in_err-table-clause-calm
+returns-in_err-table-clause-calm g c =
+    let p = err_from_is_err_and c.from_residual.result c.from_residual.ensures.1 in
+    rw (p.1, p.2) (rules_calm _)
+
+pub returns-in_err-run-clause-calm : goal.returns-in_err-run-clause-calm
+returns-in_err-run-clause-calm g c =
+    let p = err_from_is_err_and c.from_residual-in_err-run.result c.from_residual-in_err-run.ensures.1 in
+    rw (p.1, p.2) (search_calm _)

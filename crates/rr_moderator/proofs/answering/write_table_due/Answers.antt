@@ -1,0 +1,5 @@
+use Rattle.rr_moderator.proofs.Telling.{told_words}
+use Rattle.rr_moderator.proofs.answering.write_table_due.Goals as goal
+
+pub returns-clause-front : goal.returns-clause-front
+returns-clause-front c = told_words _ _ c.write_due.ensures.text
