@@ -38,7 +38,6 @@ use Rattle.rr_moderator.specs.Answer.{accepted_text, accepted_with}
 use Rattle.rr_moderator.specs.Best.{best_run}
 use Rattle.rr_moderator.specs.Choosing.{CommitsBest, Stays, Goes_on}
 use Rattle.rr_moderator.specs.Durability.{CannotKeep, CommitsOnce, CountsTold, HasNoPlace, IsIdle, IsReplyTo, IsRuled, IsTaken, IsToldOf, Lacks_run, Lasts, Makes_none, Makes_one, SaysNeither, layout_behind, number_behind, reaches_file, tells_acceptance, tells_full}
-use Rattle.rr_moderator.specs.Fault.{of_store, refusal_of}
 use Rattle.rr_moderator.specs.Serving.{Asks, AsksFor, AsBest, Gives, OfRun, Spells, reply_to, text_of}
 use Rattle.rr_moderator.proofs.Telling.{accepted_calm, accepted_reaches, accepted_told, counts_told, failure_calm, failure_reaches, failure_told, full_calm, full_reaches, memory_calm, memory_reaches, refusal_calm, store_calm}
 use Rattle.rr_moderator.proofs.Verdicts.{refused_by_rules}

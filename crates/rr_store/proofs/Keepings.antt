@@ -26,7 +26,7 @@ use Rattle.rr_log.specs.Carrying.{Carries, HaveSameTexts}
 use Rattle.rr_log.specs.Fault.{CountsFault, IsWant, OnDeviceFault, ends_broken}
 use Rattle.rr_log.specs.Log.{HasNoRoom, IsDue, IsPastLast, IsTooLong, disk_of, free_of, is_broken, next_number, place_of, ticks_left}
 use Rattle.rr_log.specs.Growing.{Grows, TakesPages}
-use Rattle.rr_log.specs.PuttingOff.{BeginsIfDue, BeginsOr}
+use Rattle.rr_log.specs.PuttingOff.{BeginsIfDue}
 use Rattle.rr_log.specs.Roots.{IsRootWithin, KeepsRoots}
 use Rattle.rr_log.proofs.Carried.{device_more}
 use Rattle.rr_log.proofs.Roots.{within_step}

@@ -24,7 +24,7 @@ use Rattle.rr_kit.specs.declared.kit.Kit.{Kit}
 use Rattle.rr_turns.specs.declared.request.Request.{Request}
 use Rattle.rr_turns.specs.declared.request.Request.TheVariants.{Play, Back, Forget}
 use Rattle.rr_turns.specs.Counts.{numbers_with}
-use Rattle.rr_turns.specs.Ends.{kept_at, turn_ends}
+use Rattle.rr_turns.specs.Ends.{kept_at}
 use Rattle.rr_turns.specs.Kept.{Kept, kept_after}
 use Rattle.rr_tables.specs.Changing.{IsChangeOf, IsWritableChange}
 use Rattle.rr_tables.specs.Tables.{ArePlayed, HaveTheirSnapshots, kept_in_box}

@@ -1,5 +1,5 @@
 -- What tables are seen as, and how they are judged by that.
-use Rattle.std.proofs.Common.{◌≡◌, ◌∙◌, ℕ, List, Option, None, Some, Result, Ok, Err, MatchResult, bytes_eq, option_map, inl, inr, refl, sym, ap, subst}
+use Rattle.std.proofs.Common.{◌≡◌, ◌∙◌, ℕ, List, Option, None, Some, Result, MatchResult, bytes_eq, option_map, inl, inr, refl, sym, ap, subst}
 use Rattle.std.proofs.lemmas.Option.{none-some}
 use Rattle.std.specs.Global.{Box}
 use Rattle.std.proofs.lemmas.Result.{MatchResult-weaker}

@@ -1,4 +1,4 @@
-use Rattle.std.proofs.Common.{◌≡◌, ◌⊎◌, ℕ, List, [], inl, sym, subst, ◌∙◌, Ok}
+use Rattle.std.proofs.Common.{◌⊎◌, ℕ, List, [], inl, sym, subst, ◌∙◌, Ok}
 use Rattle.std.proofs.lemmas.Result.{err_from_is_err_and}
 use Rattle.rr_disk.proofs.MomentLemmas.{started}
 use Rattle.rr_disk.specs.Moments.{LeavesOnly}

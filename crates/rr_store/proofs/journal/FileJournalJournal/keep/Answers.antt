@@ -1,5 +1,4 @@
 use Rattle.std.proofs.Common.{◌∙◌, ℕ, List, Ok, refl, sym, subst}
-use Rattle.std.proofs.lemmas.Result.{err_from_is_err_and}
 use Rattle.rr_tables.specs.Tables.{lent_by}
 use Rattle.rr_store.specs.Keeping.{Keeping}
 use Rattle.rr_store.proofs.Keepings.{keeps_again, keeps_nothing}

@@ -7,7 +7,6 @@ use Rattle.rr_roster.specs.Terms.{bank_of}
 use Rattle.rr_roster.proofs.OneRoster.{names_its_bank, one_roster}
 use Rattle.rr_tables.specs.Records.Taking.{SaysBank}
 use Rattle.rr_store.specs.Recovery.Telling.{IsWrongFor, SaysNumber}
-use Rattle.rr_store.specs.declared.recovery.fault.Fault.{Fault}
 use Rattle.rr_store.specs.declared.recovery.fault.Fault.TheVariants as F
 use Rattle.rr_store.proofs.recovery.texts.read_kit.Goals as goal
 
