@@ -2,6 +2,7 @@
 from __future__ import annotations
 
 import re
+import subprocess
 import sys
 import unittest
 from pathlib import Path
@@ -131,3 +132,16 @@ class WrittenTest(StoreTest):
 
 if __name__ == "__main__":
     unittest.main()
+
+
+class OpenedVectorsTest(StoreTest):
+    def test_the_program_opens_each_and_plays_the_one_of_eight_slots_on(self) -> None:
+        for name in VERSIONS:
+            data, tables, commands = vector(name)
+            file = self.folder / name
+            file.write_bytes(data)
+            said = subprocess.run([self.program, "check", str(file)], stdout=subprocess.PIPE, text=True, check=True).stdout
+            self.assertEqual(said, f"ok {tables} {commands}\n")
+        served = subprocess.run([self.program, "serve", str(self.folder / "eight_slots")], stdout=subprocess.PIPE, text=True,
+                                input="tables\nstamp ops\nstamp pair\nstamp long\nstamp turns\n24 long back 15\n", check=True)
+        self.assertEqual(served.stdout, "= ops pair long turns\n= 105\n= 81\n= 24\n= 43\nok long 25\n")
