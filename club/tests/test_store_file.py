@@ -135,13 +135,20 @@ if __name__ == "__main__":
 
 
 class OpenedVectorsTest(StoreTest):
-    def test_the_program_opens_each_and_plays_the_one_of_eight_slots_on(self) -> None:
+    def test_the_program_opens_each_and_ends_the_checkpoint_of_one(self) -> None:
         for name in VERSIONS:
             data, tables, commands = vector(name)
             file = self.folder / name
             file.write_bytes(data)
             said = subprocess.run([self.program, "check", str(file)], stdout=subprocess.PIPE, text=True, check=True).stdout
             self.assertEqual(said, f"ok {tables} {commands}\n")
-        served = subprocess.run([self.program, "serve", str(self.folder / "eight_slots")], stdout=subprocess.PIPE, text=True,
-                                input="tables\nstamp ops\nstamp pair\nstamp long\nstamp turns\n24 long back 15\n", check=True)
-        self.assertEqual(served.stdout, "= ops pair long turns\n= 105\n= 81\n= 24\n= 43\nok long 25\n")
+        stamps = {"ops": 105, "pair": 81, "long": 24, "turns": 43}
+        lines = [f"stamp {table}" for table in stamps] + [f"{39 - turn} long back {turn}" for turn in range(15, 3, -1)]
+        right = [f"= {stamp}" for stamp in stamps.values()] + [f"ok long {40 - turn}" for turn in range(15, 3, -1)]
+        file, before = self.folder / "eight_slots", read(vector("eight_slots")[0])
+        served = subprocess.run([self.program, "serve", str(file)], stdout=subprocess.PIPE, text=True,
+                                input="\n".join([*lines, ""]), check=True)
+        self.assertEqual(served.stdout.splitlines(), right)
+        after = read(file.read_bytes())  # eight of the lines were a checkpoint's steps
+        self.assertEqual((after.root.number, after.root.version), (before.root.number + 1, 2))
+        self.assertEqual(list(after.accepted()), list(stamps))
